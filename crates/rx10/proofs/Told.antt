@@ -1,6 +1,5 @@
 -- What answers tell.
-use Rattle.std.proofs.Common.{◌≡◌, ℕ, subst}
-use Rattle.std.specs.Prelude.{Result, Ok, Err, IsErrOf, IfOk}
+use Rattle.std.proofs.Common.{◌≡◌, ℕ, subst, Result, Ok, Err, IsErrOf, IfOk}
 use Rattle.rx10.specs.declared.status.Status.{Status}
 use Rattle.rx10.specs.declared.status.Status.TheVariants.{Syntax}
 

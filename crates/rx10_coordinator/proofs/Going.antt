@@ -1,7 +1,6 @@
 -- A session goes on.
 use Rattle.std.proofs.Common.{◌≡◌, ℕ, true, ◌||◌, List, [], ◌∷◌, ◌++◌, refl, ap, sym, ◌∙◌, subst, append_assoc, append-nil, inl, inr}
-use Rattle.rx_base.specs.declared.ids.ScopeId.{ScopeId}
-use Rattle.rx_base.specs.declared.ids.TaskId.{TaskId}
+use Rattle.rx_rules.proofs.Common.{ScopeId, TaskId}
 use Rattle.rx_rules.specs.declared.entries.Entry.{Entry}
 use Rattle.rx_finish.specs.declared.ledger.Outcome.{Outcome}
 use Rattle.rx_coordinator.specs.declared.requests.Request.{Request}

@@ -1,10 +1,9 @@
 -- Lines of entries that are told to the log, and written there.
-use Rattle.std.specs.Prelude.{◌⊎◌}
-use Rattle.std.proofs.Common.{◌≡◌, ℕ, ◌+◌, ◌≤◌, Bool, true, false, List, [], ◌++◌, length, Option, None, Result, Ok, Err, refl, ap, sym, ◌∙◌, subst, append-nil, inl, inr, arith}
+use Rattle.std.proofs.Common.{◌⊎◌, ◌≡◌, ℕ, ◌+◌, ◌≤◌, Bool, true, false, List, [], ◌++◌, length, Option, None, Result, Ok, Err, refl, ap, sym, ◌∙◌, subst, append-nil, inl, inr, arith}
 use Rattle.std.specs.Io.KnownBytes.{Appends}
 use Rattle.std.proofs.KnownBytes.{Appends-nil, Appends-trans}
 use Rattle.std.proofs.lemmas.Bool.{true≢false}
-use Rattle.rx_base.specs.Outside.{Rose}
+use Rattle.rx_rules.proofs.Common.{Rose}
 use Rattle.rx_rules.specs.declared.entries.Entry.{Entry}
 use Rattle.rx10_coordinator.specs.declared.log.Log.{Log}
 use Rattle.rx_lines.specs.declared.output.Pending.{Pending}

@@ -1,9 +1,8 @@
 -- What was served.
-use Rattle.std.specs.Prelude.{true, false, ◌⊎◌, ◌-◌, ◌^◌}
-use Rattle.std.proofs.Common.{◌≡◌, ℕ, ◌+◌, ◌≤◌, Bool, List, [], ◌∷◌, ◌++◌, length, take, length-append, length-take, Option, None, refl, sym, ◌∙◌, ap, subst, append_assoc, append-nil, inl, inr, arith}
+use Rattle.std.proofs.Common.{true, false, ◌⊎◌, ◌-◌, ◌^◌, ◌≡◌, ℕ, ◌+◌, ◌≤◌, Bool, List, [], ◌∷◌, ◌++◌, length, take, length-append, length-take, Option, None, refl, sym, ◌∙◌, ap, subst, append_assoc, append-nil, inl, inr, arith}
 use Rattle.std.specs.Io.KnownBytes.{Consumes, IsAtEnd, Appends}
 use Rattle.std.proofs.KnownBytes.{Appends-nil, Consumes-trans}
-use Rattle.rx_base.specs.Outside.{Rose}
+use Rattle.rx_rules.proofs.Common.{Rose}
 use Rattle.rx_rules.specs.declared.entries.Entry.{Entry}
 use Rattle.rx_coordinator.specs.declared.parking.Parking.{Parking}
 use Rattle.rx10_coordinator.specs.declared.desk.Desk.{Desk}

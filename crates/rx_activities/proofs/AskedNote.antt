@@ -1,6 +1,5 @@
 -- The note and the events of a request, from what was done for it.
-use Rattle.std.specs.Prelude.{◌≡◌, ◌≢◌, Bool, true, false, List, [], drop, length, map, Option, Some, None, IfSome, MatchBool, refl}
-use Rattle.std.proofs.Common.{ap, ◌∙◌, subst}
+use Rattle.std.proofs.Common.{◌≡◌, ◌≢◌, Bool, true, false, List, [], drop, length, map, Option, Some, None, IfSome, MatchBool, refl, ap, ◌∙◌, subst}
 use Rattle.rx_book.specs.declared.views.Stamped.{Stamped}
 use Rattle.rx_book.specs.declared.views.View.{View}
 use Rattle.rx_book.specs.declared.passes.Note.{Note}

@@ -1,9 +1,6 @@
 -- What a step asks for, what a started task's statement is, and what the control is after the request was made.
-use Rattle.std.specs.Prelude.{◌≡◌, ℕ, List, Option, Some, refl}
-use Rattle.std.proofs.Common.{ap, sym, ◌∙◌}
-use Rattle.rx_base.specs.declared.ids.PlaceId.{PlaceId}
-use Rattle.rx_base.specs.declared.values.Fault.{Fault}
-use Rattle.rx_rules.specs.Terms.{Term, Empty, Vars, Does, Local, Makes, Gets, Puts, Forgets, Opens, Calls, Spawns, Waits, Releases, Prints, Counts, Done, does, begins, granted, replaced}
+use Rattle.std.proofs.Common.{◌≡◌, ℕ, List, Option, Some, refl, ap, sym, ◌∙◌}
+use Rattle.rx_rules.proofs.Common.{PlaceId, Fault, Term, Empty, Vars, Does, Local, Makes, Gets, Puts, Forgets, Opens, Calls, Spawns, Waits, Releases, Prints, Counts, Done, does, begins, granted, replaced}
 use Rattle.rx_syntax.specs.Shape.{Shape}
 use Rattle.rx_control.specs.declared.control.Control.{Control}
 use Rattle.rx_history.specs.declared.step.Next.{Next}

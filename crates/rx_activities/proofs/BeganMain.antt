@@ -1,11 +1,7 @@
 -- What the main activity knows before its first entry.
-use Rattle.std.specs.Prelude.{◌≡◌, ◌<◌, ◌≤◌, List, [], ◌∷◌, Some, slice_get, refl}
-use Rattle.std.proofs.Common.{ap, sym, subst, arith}
+use Rattle.std.proofs.Common.{◌≡◌, ◌<◌, ◌≤◌, List, [], ◌∷◌, Some, slice_get, refl, ap, sym, subst, arith}
 use mathlib.Core.List.{IsPrefix}
-use Rattle.rx_base.specs.declared.ids.PlaceId.{PlaceId}
-use Rattle.rx_rules.specs.Code.{Block}
-use Rattle.rx_rules.specs.Fold.{tree_of}
-use Rattle.rx_rules.specs.Terms.{Empty}
+use Rattle.rx_rules.proofs.Common.{PlaceId, Block, tree_of, Empty}
 use Rattle.rx_runs.specs.SomeWords.{MakesSome}
 use Rattle.rx_finish.specs.declared.ledger.Caller.{Caller}
 use Rattle.rx_ticket.specs.declared.tickets.AnyTicket.TheVariants.{Running}

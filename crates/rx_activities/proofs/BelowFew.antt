@@ -1,12 +1,8 @@
 -- There are 1 to 16 places in each history. (Belongs into rx_rules or rx_sound.)
-use Rattle.std.specs.Prelude.{ℕ, suc, ◌≤◌, List, [], ◌∷◌}
-use Rattle.std.proofs.Common.{arith}
+use Rattle.std.proofs.Common.{ℕ, suc, ◌≤◌, List, [], ◌∷◌, arith}
 use Rattle.rx_rules.specs.declared.entries.Entry.{Entry}
 use Rattle.rx_rules.specs.declared.entries.Entry.TheVariants.{Step, Root, Death, Join}
-use Rattle.rx_rules.specs.Tree.{Tree}
-use Rattle.rx_rules.specs.Entries.{made}
-use Rattle.rx_rules.specs.Fold.{opening, fold_from, AllAllowed, tree_of}
-use Rattle.rx_rules.specs.Run.{Given, Folds}
+use Rattle.rx_rules.proofs.Common.{Tree, made, opening, fold_from, AllAllowed, tree_of, Given, Folds}
 use Rattle.rx_rules.proofs.Append.{act-places, fold-places}
 
 few_along : (n : ℕ) (T : Tree) (es : List Entry) → AllAllowed n T es → T.places ≤ 16 → (fold_from n T es).places ≤ 16

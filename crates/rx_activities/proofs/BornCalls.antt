@@ -1,11 +1,8 @@
 -- A call of the ledger's book that appended what was due and then one entry.
-use Rattle.std.specs.Prelude.{◌≡◌, ℕ, suc, ◌+◌, ◌<◌, ◌≤◌, ◌^◌, List, [], ◌∷◌, ◌++◌, map, length, Some, slice_get}
-use Rattle.std.proofs.Common.{ap, sym, ◌∙◌, subst, append_assoc, arith, length-append}
+use Rattle.std.proofs.Common.{◌≡◌, ℕ, suc, ◌+◌, ◌<◌, ◌≤◌, ◌^◌, List, [], ◌∷◌, ◌++◌, map, length, Some, slice_get, ap, sym, ◌∙◌, subst, append_assoc, arith, length-append}
 use Rattle.std.proofs.lemmas.List.{map-append}
 use Rattle.rx_rules.specs.declared.entries.Entry.{Entry}
-use Rattle.rx_rules.specs.Code.{Block}
-use Rattle.rx_rules.specs.Fold.{tree_of}
-use Rattle.rx_rules.specs.Run.{Given, Folds}
+use Rattle.rx_rules.proofs.Common.{Block, tree_of, Given, Folds}
 use Rattle.rx_sound.specs.Sound.{Each}
 use Rattle.rx_finish.specs.Callers.{HasNumbers}
 use Rattle.rx_ticket.specs.declared.tickets.AnyTicket.{AnyTicket}

@@ -1,16 +1,7 @@
 -- What an activity shows by its passes of a call of its place's store.
-use Rattle.std.specs.Prelude.{◌≡◌, ◌+◌, ◌<◌, ◌≤◌, ◌^◌, ℕ, false, List, [], length, Option, Some, slice_get, refl}
-use Rattle.std.proofs.Common.{ap, sym, ◌∙◌, subst, arith}
+use Rattle.std.proofs.Common.{◌≡◌, ◌+◌, ◌<◌, ◌≤◌, ◌^◌, ℕ, false, List, [], length, Option, Some, slice_get, refl, ap, sym, ◌∙◌, subst, arith}
 use mathlib.Core.List.{IsPrefix}
-use Rattle.rx_base.specs.Sets.{has_bit}
-use Rattle.rx_base.specs.declared.ids.PlaceId.{PlaceId}
-use Rattle.rx_base.specs.declared.ids.TaskId.{TaskId}
-use Rattle.rx_rules.specs.Code.{Block}
-use Rattle.rx_rules.specs.Store.{opening_state}
-use Rattle.rx_rules.specs.Terms.{Term, Vars, Does, Local, Makes, Gets, Puts, Forgets, Opens, Calls, Spawns, Waits, Releases, Prints, Counts, Done, does, begins}
-use Rattle.rx_rules.specs.Fold.{tree_of}
-use Rattle.rx_rules.specs.Run.{Given, Folds}
-use Rattle.rx_rules.specs.Picked.{Player, Goes, stays as goes_none}
+use Rattle.rx_rules.proofs.Common.{has_bit, PlaceId, TaskId, Block, opening_state, Term, Vars, Does, Local, Makes, Gets, Puts, Forgets, Opens, Calls, Spawns, Waits, Releases, Prints, Counts, Done, does, begins, tree_of, Given, Folds, Player, Goes, stays as goes_none, Cells}
 use Rattle.rx_runs.specs.Steps.{TermSinks}
 use Rattle.rx_sound.proofs.Beginning.{begins-so}
 use Rattle.rx_sound.specs.TermSteps.{Begins}
@@ -40,7 +31,6 @@ use Rattle.rx_ledger.specs.Answering.{asker}
 use Rattle.rx_parts.proofs.Lists.{one_item}
 use Rattle.rx_parts.specs.Ledger.{Actor, Walks, LegalLedger, stays, local, stores}
 use Rattle.rx_runs.specs.Segments.{Stand}
-use Rattle.rx_rules.specs.Plays.{Cells}
 use Rattle.rx_parts.specs.declared.items.EntryItem.{EntryItem}
 use Rattle.rx_parts.specs.Histories.{ledger_items}
 use Rattle.rx_objects.specs.declared.ledger.LedgerFixed.{LedgerFixed}

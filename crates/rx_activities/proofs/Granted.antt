@@ -1,16 +1,10 @@
 -- What an activity knows after a granted request.
-use Rattle.std.specs.Prelude.{◌≡◌, ◌+◌, ◌<◌, ◌≤◌, ◌^◌, ℕ, suc, List, [], ◌∷◌, ◌++◌, length, map, drop, Some, slice_get}
-use Rattle.std.proofs.Common.{ap, sym, ◌∙◌, subst, append-nil}
+use Rattle.std.proofs.Common.{◌≡◌, ◌+◌, ◌<◌, ◌≤◌, ◌^◌, ℕ, suc, List, [], ◌∷◌, ◌++◌, length, map, drop, Some, slice_get, ap, sym, ◌∙◌, subst, append-nil}
 use Rattle.std.proofs.Math.Seq.{drop-length}
-use Rattle.rx_base.specs.declared.ids.PlaceId.{PlaceId}
-use Rattle.rx_base.specs.declared.ids.TaskId.{TaskId}
+use Rattle.rx_rules.proofs.Common.{PlaceId, TaskId, Block, Term, Vars, does, granted, tree_of, Cells, brought, vars_told, Given}
 use Rattle.rx_rules.specs.declared.entries.Act.{Act}
 use Rattle.rx_rules.specs.declared.entries.Entry.TheVariants.{Step}
-use Rattle.rx_rules.specs.Code.{Block}
-use Rattle.rx_rules.specs.Terms.{Term, Vars, does, granted}
-use Rattle.rx_rules.specs.Fold.{tree_of}
-use Rattle.rx_rules.specs.Plays.{Cells, Fits, brought, vars_told}
-use Rattle.rx_rules.specs.Run.{Given}
+use Rattle.rx_rules.specs.Plays.{Fits}
 use Rattle.rx_history.specs.Setups.{given}
 use Rattle.rx_control.specs.declared.control.Control.{Control}
 use Rattle.rx_control.specs.Stands.{StandsFor}

@@ -1,18 +1,13 @@
 -- Each request that may be granted, by its reply.
-use Rattle.std.specs.Prelude.{◌≡◌, ℕ, drop, List, [], ◌∷◌, ◌++◌, reverse, Option, Some, None, refl}
-use Rattle.std.proofs.Common.{ap, sym, ◌∙◌, subst}
+use Rattle.std.proofs.Common.{◌≡◌, ℕ, drop, List, [], ◌∷◌, ◌++◌, reverse, Option, Some, None, refl, ap, sym, ◌∙◌, subst}
 use Rattle.std.proofs.lemmas.List.{reverse-append, reverse-reverse}
-use Rattle.rx_base.specs.declared.ids.ScopeId.{ScopeId}
-use Rattle.rx_base.specs.declared.values.Fault.{Fault}
+use Rattle.rx_rules.proofs.Common.{ScopeId, Fault, Block, place_number, Term, Does, Opens, Calls, Spawns, Waits, Releases, Prints, does, begins, granted, raised_by, vars_told}
 use Rattle.rx_rules.specs.declared.entries.Act.{Act}
 use Rattle.rx_rules.specs.declared.entries.Act.TheVariants.{Open, At as ActCall, Spawn, Wait, Release, Print}
 use Rattle.rx_rules.specs.declared.entries.Entry.TheVariants.{Step}
 use Rattle.rx_rules.specs.declared.tasks.Kind.{Kind}
 use Rattle.rx_rules.specs.declared.tasks.Kind.TheVariants.{Finish as OfFinish, Call as OfCall}
-use Rattle.rx_rules.specs.Code.{Block}
-use Rattle.rx_rules.specs.Entries.{place_number}
-use Rattle.rx_rules.specs.Terms.{Term, Does, Opens, Calls, Spawns, Waits, Releases, Prints, does, begins, granted}
-use Rattle.rx_rules.specs.Plays.{Fits, raised_by, vars_told}
+use Rattle.rx_rules.specs.Plays.{Fits}
 use Rattle.rx_syntax.specs.Shape.{Shape, Stands}
 use Rattle.rx_history.specs.Next.{next_of}
 use Rattle.rx_finish.specs.declared.ledger.Caller.{Caller}

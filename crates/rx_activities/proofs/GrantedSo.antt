@@ -1,13 +1,8 @@
 -- A granted request: the activity knows what it has to, once its control has gone on.
-use Rattle.std.specs.Prelude.{◌≡◌, ◌≤◌, List, [], reverse, Option, Some, refl}
-use Rattle.std.proofs.Common.{ap, sym, ◌∙◌, subst, arith}
+use Rattle.std.proofs.Common.{◌≡◌, ◌≤◌, List, [], reverse, Option, Some, refl, ap, sym, ◌∙◌, subst, arith}
 use Rattle.std.proofs.lemmas.Option.{same_Some}
-use Rattle.rx_base.specs.declared.values.Fault.{Fault}
+use Rattle.rx_rules.proofs.Common.{Fault, Block, Term, Empty, Vars, does, granted, replaced, tree_of, brought, vars_told}
 use Rattle.rx_rules.specs.declared.entries.Act.{Act}
-use Rattle.rx_rules.specs.Code.{Block}
-use Rattle.rx_rules.specs.Terms.{Term, Empty, Vars, does, granted, replaced}
-use Rattle.rx_rules.specs.Fold.{tree_of}
-use Rattle.rx_rules.specs.Plays.{brought, vars_told}
 use Rattle.rx_syntax.specs.Shape.{Shape, Stands}
 use Rattle.rx_control.specs.declared.control.Control.{Control}
 use Rattle.rx_history.specs.declared.step.Next.{Next}

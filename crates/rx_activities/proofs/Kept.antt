@@ -1,6 +1,5 @@
 -- An activity that was put into its block.
-use Rattle.std.specs.Prelude.{◌≡◌, Result, Ok, Err, IfOk, IfErr, refl}
-use Rattle.std.proofs.Common.{ap, sym, ◌∙◌, subst}
+use Rattle.std.proofs.Common.{◌≡◌, Result, Ok, Err, IfOk, IfErr, refl, ap, sym, ◌∙◌, subst}
 use Rattle.std.specs.Global.{Box}
 use Rattle.rx_book.specs.Named.{BookName}
 use Rattle.rx_book.specs.declared.passes.Pass.{Pass}

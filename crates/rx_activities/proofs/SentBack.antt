@@ -1,14 +1,7 @@
 -- A release that may not be made yet: the activity waits, and knows what it knew.
-use Rattle.std.specs.Prelude.{◌≡◌, ◌+◌, ◌<◌, ◌≤◌, ◌^◌, ℕ, Bool, true, List, [], ◌∷◌, ◌++◌, length, map, Option, Some, slice_get, refl}
-use Rattle.std.proofs.Common.{ap, sym, ◌∙◌, subst, arith, append_assoc, append-nil}
-use Rattle.rx_base.specs.declared.ids.PlaceId.{PlaceId}
+use Rattle.std.proofs.Common.{◌≡◌, ◌+◌, ◌<◌, ◌≤◌, ◌^◌, ℕ, Bool, true, List, [], ◌∷◌, ◌++◌, length, map, Option, Some, slice_get, refl, ap, sym, ◌∙◌, subst, arith, append_assoc, append-nil}
+use Rattle.rx_rules.proofs.Common.{PlaceId, Block, Does, Releases, does, Tree, tree_of, Cells, Given}
 use Rattle.rx_rules.specs.declared.entries.Entry.{Entry}
-use Rattle.rx_rules.specs.Code.{Block}
-use Rattle.rx_rules.specs.Terms.{Does, Releases, does}
-use Rattle.rx_rules.specs.Tree.{Tree}
-use Rattle.rx_rules.specs.Fold.{tree_of}
-use Rattle.rx_rules.specs.Plays.{Cells}
-use Rattle.rx_rules.specs.Run.{Given}
 use Rattle.rx_syntax.specs.Shape.{Shape, Stands}
 use Rattle.rx_control.specs.declared.control.Control.{Control}
 use Rattle.rx_history.specs.declared.step.Next.TheVariants.{Book as BookStep}

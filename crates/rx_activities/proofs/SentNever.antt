@@ -1,7 +1,6 @@
 -- What an activity at its place is never answered: an arrival, and the root's release.
-use Rattle.std.specs.Prelude.{◌≡◌, Option}
-use Rattle.std.proofs.Common.{ap}
-use Rattle.rx_rules.specs.Code.{Block}
+use Rattle.std.proofs.Common.{◌≡◌, Option, ap}
+use Rattle.rx_rules.proofs.Common.{Block}
 use Rattle.rx_syntax.specs.Shape.{Shape, Stands}
 use Rattle.rx_finish.specs.declared.ledger.Caller.{Caller}
 use Rattle.rx_history.specs.declared.asks.Ask.TheVariants.{Arrive as AskArrive, Root as AskRoot}

@@ -1,19 +1,10 @@
 -- What an activity knows after the store's answer.
-use Rattle.std.specs.Prelude.{◌≡◌, ◌<◌, ◌≤◌, max, ℕ, Bool, true, false, List, [], ◌∷◌, ◌++◌, map, drop, length, Option, Some, Result, Ok, Err, OnOk, is_err, refl}
+use Rattle.std.proofs.Common.{◌≡◌, ◌<◌, ◌≤◌, max, ℕ, Bool, true, false, List, [], ◌∷◌, ◌++◌, map, drop, length, Option, Some, Result, Ok, Err, OnOk, is_err, refl, ap, sym, ◌∙◌, subst, arith, length-append}
 use Rattle.std.specs.List.{filter_map}
-use Rattle.std.proofs.Common.{ap, sym, ◌∙◌, subst, arith, length-append}
 use Rattle.std.proofs.lemmas.List.{append-nil, map-append, drop-append-le}
 use mathlib.Core.List.{IsPrefix}
-use Rattle.rx_base.specs.declared.ids.PlaceId.{PlaceId}
-use Rattle.rx_base.specs.declared.ids.TaskId.{TaskId}
-use Rattle.rx_base.specs.declared.values.Value.{Value}
-use Rattle.rx_base.specs.declared.values.Fault.{Fault}
+use Rattle.rx_rules.proofs.Common.{PlaceId, TaskId, Value, Fault, Block, Term, Vars, Answer, does, begins, receives, answer_of, answered, vars_after, Cells, Tells, begun, cell_of, tree_of, Given}
 use Rattle.rx_rules.specs.declared.entries.Entry.{Entry}
-use Rattle.rx_rules.specs.Code.{Block}
-use Rattle.rx_rules.specs.Terms.{Term, Vars, Answer, does, begins, receives, answer_of, answered, vars_after}
-use Rattle.rx_rules.specs.Plays.{Cells, Tells, begun, cell_of}
-use Rattle.rx_rules.specs.Fold.{tree_of}
-use Rattle.rx_rules.specs.Run.{Given}
 use Rattle.rx_runs.specs.Steps.{TermSinks}
 use Rattle.rx_runs.specs.Segments.{Stand}
 use Rattle.rx_syntax.specs.Shape.{Stands}

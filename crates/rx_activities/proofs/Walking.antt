@@ -1,13 +1,6 @@
 -- What an activity knows after a local step, and after a look at the ledger's word.
-use Rattle.std.specs.Prelude.{◌≡◌, ◌≤◌, ℕ, Bool, true, false, List, [], refl}
-use Rattle.std.proofs.Common.{ap, sym, ◌∙◌, subst}
-use Rattle.rx_base.specs.declared.ids.PlaceId.{PlaceId}
-use Rattle.rx_base.specs.declared.ids.TaskId.{TaskId}
-use Rattle.rx_rules.specs.Code.{Block}
-use Rattle.rx_rules.specs.Store.{opening_state}
-use Rattle.rx_rules.specs.Terms.{Term, Vars, Does, Local, Releases, does}
-use Rattle.rx_rules.specs.Plays.{Cells, begun}
-use Rattle.rx_rules.specs.Picked.{Player, Goes, local as goes_by, stays as goes_none}
+use Rattle.std.proofs.Common.{◌≡◌, ◌≤◌, ℕ, Bool, true, false, List, [], refl, ap, sym, ◌∙◌, subst}
+use Rattle.rx_rules.proofs.Common.{PlaceId, TaskId, Block, opening_state, Term, Vars, Does, Local, Releases, does, Cells, begun, Player, Goes, local as goes_by, stays as goes_none}
 use Rattle.rx_runs.specs.Segments.{Stand}
 use Rattle.rx_runs.proofs.SomeWords.{goes_some}
 use Rattle.rx_runs.proofs.Knowing.{local_knows}

@@ -1,9 +1,6 @@
 -- What is known of a pair is known of it alone.
-use Rattle.std.proofs.Common.{◌≡◌, ℕ, Bool, true, false, List, refl, ap, sym, ◌∙◌, subst}
-use Rattle.std.specs.Prelude.{slice_index, ◌==◌, ◌||◌}
-use Rattle.rx_rules.specs.Code.{Block}
-use Rattle.rx_rules.specs.Order.{told}
-use Rattle.rx_rules.specs.Run.{Given}
+use Rattle.std.proofs.Common.{◌≡◌, ℕ, Bool, true, false, List, refl, ap, sym, ◌∙◌, subst, slice_index, ◌==◌, ◌||◌}
+use Rattle.rx_rules.proofs.Common.{Block, told, Given}
 use Rattle.rx_rules.specs.declared.entries.Entry.{Entry}
 use Rattle.rx_rules.specs.declared.events.PlaceEvent.{PlaceEvent}
 use Rattle.rx_syntax.specs.Grammar.{IsScript}

@@ -1,5 +1,5 @@
 -- Tests that are joined.
-use Rattle.std.specs.Prelude.{◌≡◌, Bool, true, false, ◌&&◌, ◌||◌, refl}
+use Rattle.std.proofs.Common.{◌≡◌, Bool, true, false, ◌&&◌, ◌||◌, refl}
 
 pub and-first : (a b : Bool) → (a && b) ≡ true → a ≡ true
 and-first true b both = refl

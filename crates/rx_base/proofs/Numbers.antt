@@ -1,6 +1,5 @@
 -- Numbers.
-use Rattle.std.specs.Prelude.{◌≡◌, ℕ, zero, suc, ◌+◌, ◌<◌, ◌≤◌, ◌==◌, true, refl}
-use Rattle.std.proofs.Common.{arith}
+use Rattle.std.proofs.Common.{◌≡◌, ℕ, zero, suc, ◌+◌, ◌<◌, ◌≤◌, ◌==◌, true, refl, arith}
 use Rattle.std.proofs.lemmas.Bool.{eq-eqb}
 
 pub eq-refl : (n : ℕ) → (n == n) ≡ true

@@ -1,6 +1,5 @@
 -- What a test tells of an option.
-use Rattle.std.specs.Prelude.{◌≡◌, true, false, Option, Some, None, is_some, is_none, refl}
-use Rattle.std.proofs.Common.{sym}
+use Rattle.std.proofs.Common.{◌≡◌, true, false, Option, Some, None, is_some, is_none, refl, sym}
 use Rattle.std.proofs.lemmas.Bool.{true≢false}
 
 pub some-of : {X : Type 0} (o : Option X) → is_some o ≡ true → (x : X) × (o ≡ Some x)

@@ -1,6 +1,5 @@
 -- Histories as lists.
-use Rattle.std.proofs.Common.{◌≡◌, ℕ, zero, suc, ◌+◌, ◌≤◌, Bool, true, false, Option, List, [], ◌∷◌, ◌++◌, length, take, drop, refl, ap, sym, ◌∙◌, arith, if◌then◌else◌, length-append, bit_or}
-use Rattle.std.specs.Prelude.{max}
+use Rattle.std.proofs.Common.{◌≡◌, ℕ, zero, suc, ◌+◌, ◌≤◌, Bool, true, false, Option, List, [], ◌∷◌, ◌++◌, length, take, drop, refl, ap, sym, ◌∙◌, arith, if◌then◌else◌, length-append, bit_or, max}
 use Rattle.std.proofs.lemmas.List.{take-append-drop, append-nil}
 use mathlib.Core.List.{IsPrefix}
 use Rattle.rx_book.specs.declared.views.Stamped.{Stamped}

@@ -1,6 +1,5 @@
 -- Each step on the word keeps the rule.
-use Rattle.std.proofs.Common.{◌≡◌, ◌≢◌, ℕ, zero, suc, ◌+◌, ◌*◌, ◌/◌, ◌%◌, ◌^◌, ◌<◌, ◌≤◌, Bool, true, false, ◌||◌, Option, List, [], ◌∷◌, ◌++◌, length, take, drop, set, slice_index, refl, ap, sym, ◌∙◌, arith, subst, length-append, bit_or, ◌⊎◌, ⊎_elim, inl, inr}
-use Rattle.std.specs.Prelude.{slice_set}
+use Rattle.std.proofs.Common.{◌≡◌, ◌≢◌, ℕ, zero, suc, ◌+◌, ◌*◌, ◌/◌, ◌%◌, ◌^◌, ◌<◌, ◌≤◌, Bool, true, false, ◌||◌, Option, List, [], ◌∷◌, ◌++◌, length, take, drop, set, slice_index, refl, ap, sym, ◌∙◌, arith, subst, length-append, bit_or, ◌⊎◌, ⊎_elim, inl, inr, slice_set}
 use Rattle.std.proofs.lemmas.List.{take-append-le, append-nil, length-drop, length-map}
 use Rattle.std.proofs.Math.ListN.{drop_of_length-le}
 use Rattle.std.proofs.Math.Seq.{drop-append_seam, take-append_seam}

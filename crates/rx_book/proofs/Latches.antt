@@ -1,9 +1,8 @@
 -- Each step on the lock keeps its rule.
-use Rattle.std.proofs.Common.{◌⊎◌, ◌≡◌, ◌≢◌, ℕ, zero, suc, ◌<◌, eqb, Option, Some, None, List, [], ◌∷◌, set, slice_index, refl, ap, sym, ◌∙◌, arith, subst, ⊎_elim, inl, inr}
+use Rattle.std.proofs.Common.{◌⊎◌, ◌≡◌, ◌≢◌, ℕ, zero, suc, ◌<◌, eqb, Option, Some, None, List, [], ◌∷◌, set, slice_index, refl, ap, sym, ◌∙◌, arith, subst, ⊎_elim, inl, inr, slice_set}
 use mathlib.Core.Option.{none, some, some-ne-none}
 use prog.Atomic.{either}
 use lib.ListN.{get_elem?}
-use Rattle.std.specs.Prelude.{slice_set}
 use Rattle.rx_base.proofs.Elements.{one-word, set-one, set-one-again}
 use Rattle.atomic_table.specs.Table.{State, Act, keeps, takes, gives, step, stepped, carried_after, Valid, Allows, Enters}
 use Rattle.atomic_table.proofs.Lists.{at_set, at_snoc, at_longer, set_here, set_again, exchanged}

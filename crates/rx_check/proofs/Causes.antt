@@ -1,6 +1,5 @@
 -- A fault that is handed on.
-use Rattle.std.specs.Prelude.{◌≡◌, ℕ, Result, Err, IsErrOf}
-use Rattle.std.proofs.Common.{ap, sym, ◌∙◌}
+use Rattle.std.proofs.Common.{◌≡◌, ℕ, Result, Err, IsErrOf, ap, sym, ◌∙◌}
 use Rattle.rx_check.specs.declared.checker.CheckCause.{CheckCause}
 use Rattle.rx_check.specs.declared.checker.CheckCause.TheVariants.{Bad}
 

@@ -1,22 +1,13 @@
 -- Whatever a task of a script that meets the rules comes to keeps the rules, and so is defined.
-use Rattle.std.specs.Prelude.{◌≡◌, ℕ, ℤ, ◌≤◌, true, cond, List, [], ◌∷◌, Option, None, length}
-use Rattle.std.proofs.Common.{sym, subst}
+use Rattle.std.proofs.Common.{◌≡◌, ℕ, ℤ, ◌≤◌, true, cond, List, [], ◌∷◌, Option, None, length, sym, subst}
 use Rattle.std.proofs.lemmas.List.{length-replicate}
-use Rattle.rx_base.specs.declared.ids.GlobalRef.{GlobalRef}
-use Rattle.rx_base.specs.declared.ids.PlaceId.{PlaceId}
-use Rattle.rx_base.specs.declared.values.Fault.{Fault}
-use Rattle.rx_base.specs.declared.values.Fault.TheVariants.{HeapFull, Stale, Index}
-use Rattle.rx_base.specs.declared.values.Value.{Value}
-use Rattle.rx_base.specs.declared.values.Value.TheVariants.{Num as Number, Ref}
+use Rattle.rx_rules.proofs.Common.{GlobalRef, PlaceId, Fault, HeapFull, Stale, Index, Value, Number, Ref, Block, Vars, no_vars, bound, Term, Empty, Raise, Answer, answered, vars_after, Gives, Fine, Fails, Does, Local, Makes, Gets, Puts, Forgets, Opens, Calls, Spawns, Waits, Releases, Prints, Counts, Done, does, granted, replaced, after_it, Tells, brought, vars_told, has}
 use Rattle.rx_rules.specs.declared.entries.Act.{Act}
 use Rattle.rx_rules.specs.declared.entries.Act.TheVariants as acts
 use Rattle.rx_rules.specs.declared.events.Cell.{Cell}
 use Rattle.rx_rules.specs.declared.events.Cell.TheVariants as cells
-use Rattle.rx_rules.specs.Code.{Block}
-use Rattle.rx_rules.specs.Terms.{Vars, no_vars, bound, Term, Empty, Raise, Answer, answered, vars_after, Gives, Fine, Fails, Does, Local, Makes, Gets, Puts, Forgets, Opens, Calls, Spawns, Waits, Releases, Prints, Counts, Done, does, granted, replaced, after_it}
-use Rattle.rx_rules.specs.Plays.{Tells, Fits, brought, vars_told}
+use Rattle.rx_rules.specs.Plays.{Fits}
 use Rattle.rx_syntax.specs.Named.{NamesAreNumbered}
-use Rattle.rx_base.specs.Lists.{has}
 use Rattle.rx_check.specs.Rules.{Kind, kind_of, nodes}
 use Rattle.rx_check.specs.Defined.{TermComes, main, local, stores, asks, starts, AlwaysDefined, FewNames}
 use Rattle.rx_check.proofs.Lawful.{Lawful, meets-lawful}

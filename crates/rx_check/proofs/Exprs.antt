@@ -1,8 +1,7 @@
 -- What a part of an expression stands for.
-use Rattle.std.proofs.Common.{◌≡◌, ◌<◌, List, Some, refl, ap, sym, ◌∙◌, subst}
-use Rattle.std.specs.Prelude.{slice_get}
+use Rattle.std.proofs.Common.{◌≡◌, ◌<◌, List, Some, refl, ap, sym, ◌∙◌, subst, slice_get}
 use Rattle.std.proofs.lemmas.Option.{same_Some}
-use Rattle.rx_rules.specs.Code.{Expr, Num, Name, Here, Bin}
+use Rattle.rx_rules.proofs.Common.{Expr, Num, Name, Here, Bin}
 use Rattle.rx_syntax.specs.declared.nodes.ExprId.{ExprId}
 use Rattle.rx_syntax.specs.declared.nodes.Expr.{Expr as Part}
 use Rattle.rx_syntax.specs.declared.nodes.Expr.TheVariants.{Num as NumPart, Name as NamePart, Here as HerePart, Bin as BinPart}

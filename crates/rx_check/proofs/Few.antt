@@ -1,9 +1,8 @@
 -- A script that meets the rules assigns at most 32 names, and so has no more.
-use Rattle.std.specs.Prelude.{◌≡◌, ◌≢◌, ℕ, zero, suc, ◌<◌, ◌≤◌, ◌==◌, Bool, true, false, cond, ◌||◌, List, [], ◌∷◌, ◌++◌, Option, Some, None, slice_get, length, refl}
-use Rattle.std.proofs.Common.{ap, sym, subst, ◌∙◌, arith}
+use Rattle.std.proofs.Common.{◌≡◌, ◌≢◌, ℕ, zero, suc, ◌<◌, ◌≤◌, ◌==◌, Bool, true, false, cond, ◌||◌, List, [], ◌∷◌, ◌++◌, Option, Some, None, slice_get, length, refl, ap, sym, subst, ◌∙◌, arith}
 use Rattle.std.proofs.lemmas.Bool.{eqb-true, eq-eqb, true≢false}
 use Rattle.rx_syntax.specs.Named.{NamesAreNumbered}
-use Rattle.rx_base.specs.Lists.{has}
+use Rattle.rx_rules.proofs.Common.{has}
 use Rattle.rx_check.specs.Rules.{Kind, Sight, assigned, kind_of, kind_after, more_names, names_after, is_name, fails_count, nodes}
 use Rattle.rx_check.specs.Defined.{FewNames}
 use Rattle.rx_check.proofs.Lawful.{AllPass, Passes, passes, meets-pass, meets-lawful, mentioned-kind, has-left, has-right}

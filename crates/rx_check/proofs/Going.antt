@@ -1,19 +1,17 @@
 -- The statements of a block, as they are gone through.
-use Rattle.std.proofs.Common.{◌≡◌, ℕ, suc, ◌+◌, ◌≤◌, Bool, true, false, ◌||◌, List, [], ◌∷◌, ◌++◌, length, drop, map, ◌==◌, refl, ap, sym, ◌∙◌, subst, arith}
-use Rattle.std.specs.Prelude.{Option, Some, None, option_map, Result, Ok, Err, IfSome, slice_get, if◌then◌else◌}
+use Rattle.std.proofs.Common.{◌≡◌, ℕ, suc, ◌+◌, ◌≤◌, Bool, true, false, ◌||◌, List, [], ◌∷◌, ◌++◌, length, drop, map, ◌==◌, refl, ap, sym, ◌∙◌, subst, arith, Option, Some, None, option_map, Result, Ok, Err, IfSome, slice_get, if◌then◌else◌}
 use Rattle.std.proofs.lemmas.List.{drop_all}
 use Rattle.std.proofs.lemmas.List.Folds.{list_any-append}
 use Rattle.std.proofs.lemmas.Option.{same_Some}
 use Rattle.std.proofs.lemmas.Bool.{eqb-true, ltb-false}
 use Rattle.rx_base.proofs.Elements.{drop-next}
 use Rattle.rx_base.proofs.Bools.{or-first}
-use Rattle.rx_rules.specs.Code.{Stmt, Block, Nothing, Then, work, work_of}
+use Rattle.rx_rules.proofs.Common.{Stmt, Block, Nothing, Then, work, work_of, has}
 use Rattle.rx_syntax.specs.Shape.{Shape, StmtIs, ListStands, BlockStands}
 use Rattle.rx_syntax.specs.declared.nodes.StmtId.{StmtId}
 use Rattle.rx_syntax.specs.declared.nodes.BlockId.{BlockId}
 use Rattle.rx_syntax.specs.declared.nodes.NameId.{NameId}
 use Rattle.rx_syntax.specs.declared.nodes.Stmt.{Stmt as Node}
-use Rattle.rx_base.specs.Lists.{has}
 use Rattle.rx_check.specs.Rules.{Kind, Sight, assigned, fails_depth, fails_known, inside, learned, sights}
 use Rattle.rx_check.specs.Inside.Walk.{Sofar, and_on, cap, is_in, is_one_more, mistakes_kind, known_with, noted, rule_with, sights_run, seen_as, sofar_of, sight_stepped, Extends, Knows}
 use Rattle.rx_check.specs.declared.names.Seen.{Seen}

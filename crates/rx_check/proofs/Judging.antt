@@ -1,6 +1,5 @@
 -- The walk finds the first statement that fails a rule.
-use Rattle.std.proofs.Common.{◌≡◌, ℕ, zero, suc, ◌<◌, ◌≤◌, ◌==◌, nat_lt, nat_le, Bool, true, false, not, ◌&&◌, ◌||◌, List, [], ◌∷◌, ◌++◌, length, map, Option, Some, None, is_some, inl, inr, refl, ap, sym, ◌∙◌, arith}
-use Rattle.std.specs.Prelude.{Result, Ok, Err, slice_get, if◌then◌else◌}
+use Rattle.std.proofs.Common.{◌≡◌, ℕ, zero, suc, ◌<◌, ◌≤◌, ◌==◌, nat_lt, nat_le, Bool, true, false, not, ◌&&◌, ◌||◌, List, [], ◌∷◌, ◌++◌, length, map, Option, Some, None, is_some, inl, inr, refl, ap, sym, ◌∙◌, arith, Result, Ok, Err, slice_get, if◌then◌else◌}
 use Rattle.std.specs.List.{list_all}
 use Rattle.std.proofs.lemmas.List.Folds.{list_all-append}
 use Rattle.std.proofs.lemmas.Bool.Decides.{nat_tests}
@@ -9,8 +8,7 @@ use Rattle.std.proofs.Math.Bool.{and-false, and-true}
 use Rattle.rx_base.proofs.Numbers.{eq-refl}
 use Rattle.rx_base.proofs.Bools.{or-assoc, and-first, and-second}
 use Rattle.rx_base.proofs.Elements.{length-push}
-use Rattle.rx_rules.specs.Code.{Stmt, SetTo, New, Get, Put, Forget, Census, Print, Throw, Async, AtAsync, At, Finish, If, Repeat, Try, Block, Nothing, Then, work}
-use Rattle.rx_base.specs.Lists.{has}
+use Rattle.rx_rules.proofs.Common.{Stmt, SetTo, New, Get, Put, Forget, Census, Print, Throw, Async, AtAsync, At, Finish, If, Repeat, Try, Block, Nothing, Then, work, has}
 use Rattle.rx_check.specs.Rules.{Kind, ANumber, AReference, exprs_of, targets_of, assigned, Sight, learned, inside, sights, nodes, same_kind, kind_after, kind_of, is_kind, more_names, names_after, names_of_all, fails_known, gets_other, fails_kind, fails_depth, is_name, fails_count, rule_of, found, first_fault, or_work, verdict}
 use Rattle.rx_check.specs.Inside.Walk.{kind_in, Sofar, differs, gets_other_kind, is_one_more, mistakes_kind, rule_with, seen_with, noted, sight_stepped, and_on, sights_run, cap}
 use Rattle.rx_check.proofs.Statements.{least}

@@ -1,14 +1,7 @@
 -- What a task has still to run keeps the rules, and its variables are of the kinds that the script gives them.
-use Rattle.std.specs.Prelude.{◌≡◌, ◌≢◌, ℕ, zero, suc, ℤ, ◌<◌, ◌≤◌, ◌==◌, true, false, ◌||◌, List, [], ◌∷◌, Option, Some, None, option_and_then, slice_get, slice_set, length, refl}
-use Rattle.std.proofs.Common.{ap, sym, subst, arith}
+use Rattle.std.proofs.Common.{◌≡◌, ◌≢◌, ℕ, zero, suc, ℤ, ◌<◌, ◌≤◌, ◌==◌, true, false, ◌||◌, List, [], ◌∷◌, Option, Some, None, option_and_then, slice_get, slice_set, length, refl, ap, sym, subst, arith}
 use Rattle.std.proofs.lemmas.Bool.{eqb-true, eqb-false}
-use Rattle.rx_base.specs.declared.ids.GlobalRef.{GlobalRef}
-use Rattle.rx_base.specs.declared.values.Fault.{Fault}
-use Rattle.rx_base.specs.declared.values.Value.{Value}
-use Rattle.rx_base.specs.declared.values.Value.TheVariants.{Num as Number, Ref}
-use Rattle.rx_rules.specs.Code.{Stmt, Block, Nothing, Then}
-use Rattle.rx_rules.specs.Terms.{Vars, value_of, bound, Term, Empty, Run, Raise, Turns, Trying, Body, Held, items_from}
-use Rattle.rx_base.specs.Lists.{has}
+use Rattle.rx_rules.proofs.Common.{GlobalRef, Fault, Value, Number, Ref, Stmt, Block, Nothing, Then, Vars, value_of, bound, Term, Empty, Run, Raise, Turns, Trying, Body, Held, items_from, has}
 use Rattle.rx_check.specs.Rules.{Kind, ANumber, AReference, learned, assigned}
 use Rattle.rx_check.specs.Defined.{IsDefined, beginning}
 use Rattle.rx_check.proofs.Lawful.{Own, Inner, Lawful}

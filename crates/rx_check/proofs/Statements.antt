@@ -1,15 +1,13 @@
 -- The parts of a statement, and the least rule that they fail.
-use Rattle.std.proofs.Common.{◌≡◌, ℕ, nat_lt, Bool, true, false, not, ◌&&◌, ◌||◌, List, [], ◌∷◌, ◌++◌, Option, Some, None, option_map, refl, ap, sym, ◌∙◌}
-use Rattle.std.specs.Prelude.{if◌then◌else◌}
+use Rattle.std.proofs.Common.{◌≡◌, ℕ, nat_lt, Bool, true, false, not, ◌&&◌, ◌||◌, List, [], ◌∷◌, ◌++◌, Option, Some, None, option_map, refl, ap, sym, ◌∙◌, if◌then◌else◌}
 use Rattle.std.specs.List.{list_all}
 use Rattle.std.proofs.lemmas.List.Folds.{list_all-append}
 use Rattle.std.proofs.Math.Bool.{and-true}
-use Rattle.rx_rules.specs.Code.{Expr, Num, Name, Here, Bin, Stmt, SetTo, New, Get, Put, Forget, Census, Print, Throw, Async, AtAsync, At, Finish, If, Repeat, Try}
+use Rattle.rx_rules.proofs.Common.{Expr, Num, Name, Here, Bin, Stmt, SetTo, New, Get, Put, Forget, Census, Print, Throw, Async, AtAsync, At, Finish, If, Repeat, Try, has}
 use Rattle.rx_syntax.specs.Shape.{Shape, StmtIs}
 use Rattle.rx_syntax.specs.declared.nodes.NameId.{NameId}
 use Rattle.rx_syntax.specs.declared.nodes.Stmt.{Stmt as Node}
 use Rattle.rx_syntax.specs.declared.nodes.Stmt.TheVariants.{Set as SetNode, New as NewNode, Get as GetNode, Put as PutNode, Forget as ForgetNode, Census as CensusNode, Print as PrintNode, Throw as ThrowNode, Async as AsyncNode, AtAsync as AtAsyncNode, At as AtNode, Finish as FinishNode, If as IfNode, Repeat as RepeatNode, Try as TryNode}
-use Rattle.rx_base.specs.Lists.{has}
 use Rattle.rx_check.specs.Rules.{Kind, ANumber, AReference, names_in, pairs_in, names_of_all, exprs_of, targets_of, assigned, Sight, is_kind, fails_known, fails_depth}
 use Rattle.rx_check.specs.Inside.Walk.{kind_in, gets_other_kind, is_one_more, mistakes_kind, rule_with, seen_as, seen_all, Knows, parts_of, any_name, join, is_unknown, is_of_kind, uses_in, OptionStands, uses_all, any_target, rule_from}
 use Rattle.rx_check.specs.declared.parts.Parts.{Parts}

@@ -1,13 +1,6 @@
 -- Each step of a task keeps what it has still to run within the rules.
-use Rattle.std.specs.Prelude.{◌≡◌, ℕ, suc, ℤ, pos, ◌<◌, ◌≤◌, ◌==◌, nat_le, Bool, true, false, cond, List, [], ◌∷◌, Option, Some, None, Result, Ok, Err, length, refl}
-use Rattle.std.proofs.Common.{sym, subst, arith}
-use Rattle.rx_base.specs.declared.ids.GlobalRef.{GlobalRef}
-use Rattle.rx_base.specs.declared.values.Fault.{Fault}
-use Rattle.rx_base.specs.declared.values.Fault.TheVariants.{Thrown, WrongPlace, Overflow}
-use Rattle.rx_base.specs.declared.values.Value.{Value}
-use Rattle.rx_base.specs.declared.values.Value.TheVariants.{Num as Number, Ref}
-use Rattle.rx_rules.specs.Code.{Stmt, SetTo, New, Get, Put, Forget, Census, Print, Throw, Async, AtAsync, At, Finish, If, Repeat, Try, Block}
-use Rattle.rx_rules.specs.Terms.{Vars, value_of, bound, Term, Empty, Run, Raise, Turns, Trying, Body, Held, items, at, Does, Local, Makes, Gets, Puts, Forgets, Opens, Calls, Spawns, Waits, Releases, Prints, Counts, Done, raise, ref_in, eval, target_of, is_zero, catches, with_number, with_place, stmt_does, within, trying_does, body_does, does, stmt_granted, or_raise, granted, stmt_child, child, replaced, after_it}
+use Rattle.std.proofs.Common.{◌≡◌, ℕ, suc, ℤ, pos, ◌<◌, ◌≤◌, ◌==◌, nat_le, Bool, true, false, cond, List, [], ◌∷◌, Option, Some, None, Result, Ok, Err, length, refl, sym, subst, arith}
+use Rattle.rx_rules.proofs.Common.{GlobalRef, Fault, Thrown, WrongPlace, Overflow, Value, Number, Ref, Stmt, SetTo, New, Get, Put, Forget, Census, Print, Throw, Async, AtAsync, At, Finish, If, Repeat, Try, Block, Vars, value_of, bound, Term, Empty, Run, Raise, Turns, Trying, Body, Held, items, at, Does, Local, Makes, Gets, Puts, Forgets, Opens, Calls, Spawns, Waits, Releases, Prints, Counts, Done, raise, ref_in, eval, target_of, is_zero, catches, with_number, with_place, stmt_does, within, trying_does, body_does, does, stmt_granted, or_raise, granted, stmt_child, child, replaced, after_it}
 use Rattle.rx_check.specs.Rules.{Kind, ANumber, AReference, learned, assigned}
 use Rattle.rx_check.proofs.Lawful.{Own, Inner, Lawful}
 use Rattle.rx_check.proofs.Safe.{Holds, Agrees, Better, better-same, better-bound, agrees-bound, agrees-better, Safe, Later, Good, later-good, good-raise, later-items, later-better, safe-better}

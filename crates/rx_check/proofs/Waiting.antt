@@ -2,7 +2,7 @@
 use Rattle.std.proofs.Common.{◌≡◌, ℕ, ℤ, zero, suc, ◌+◌, ◌-◌, ◌<◌, ◌≤◌, ◌==◌, nat_lt, Bool, true, false, ◌||◌, List, [], ◌∷◌, ◌++◌, refl, ap, sym, ◌∙◌, arith, max}
 use Rattle.std.proofs.lemmas.Bool.Decides.{nat_tests}
 use Rattle.std.proofs.Math.Bool.{or-false}
-use Rattle.rx_rules.specs.Code.{Expr, Num, Name, Here, Bin}
+use Rattle.rx_rules.proofs.Common.{Expr, Num, Name, Here, Bin}
 use Rattle.rx_syntax.specs.declared.nodes.Expr.{Expr as Part}
 use Rattle.rx_syntax.specs.Shape.{ExprStands}
 use Rattle.rx_check.specs.Rules.{pairs_in}

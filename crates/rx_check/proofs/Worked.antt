@@ -1,6 +1,6 @@
 -- The rules on small scripts.
-use Rattle.std.specs.Prelude.{◌≡◌, ℕ, zero, suc, pos, Some, None, refl}
-use Rattle.rx_rules.specs.Code.{Num, Name, SetTo, Forget, Census, Print, Finish, Repeat, Block, Nothing, Then}
+use Rattle.std.proofs.Common.{◌≡◌, ℕ, zero, suc, pos, Some, None, refl}
+use Rattle.rx_rules.proofs.Common.{Num, Name, SetTo, Forget, Census, Print, Finish, Repeat, Block, Nothing, Then}
 use Rattle.rx_check.specs.Rules.{verdict}
 
 -- `print x;`

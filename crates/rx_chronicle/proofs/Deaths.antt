@@ -1,18 +1,9 @@
 -- The death that is due, and the join.
-use Rattle.std.specs.Prelude.{◌≡◌, ℕ, suc, ◌+◌, ◌-◌, ◌<◌, ◌≤◌, ◌||◌, ◌==◌, Bool, List, [], ◌∷◌, ◌++◌, length, map, All, refl}
-use Rattle.std.proofs.Common.{ap, ◌∙◌, sym, subst, arith}
+use Rattle.std.proofs.Common.{◌≡◌, ℕ, suc, ◌+◌, ◌-◌, ◌<◌, ◌≤◌, ◌||◌, ◌==◌, Bool, List, [], ◌∷◌, ◌++◌, length, map, All, refl, ap, ◌∙◌, sym, subst, arith}
 use Rattle.std.proofs.Math.Bool.{or-false}
-use Rattle.rx_base.specs.Sets.{has_bit}
-use Rattle.rx_base.specs.declared.ids.PlaceId.{PlaceId}
-use Rattle.rx_rules.specs.Run.{Event}
-use Rattle.rx_base.specs.declared.place_set.PlaceSet.{PlaceSet}
+use Rattle.rx_rules.proofs.Common.{has_bit, PlaceId, Event, PlaceSet, Tree, strike, widened, Allowed, opening, tree_of, IsOlder, Given, IsDue, NoRoot, rest_of, in_all, plan_of}
 use Rattle.rx_rules.specs.declared.entries.Entry.{Entry}
 use Rattle.rx_rules.specs.declared.entries.Entry.TheVariants.{Death, Join}
-use Rattle.rx_rules.specs.Tree.{Tree}
-use Rattle.rx_rules.specs.Entries.{strike, widened, Allowed}
-use Rattle.rx_rules.specs.Fold.{opening, tree_of}
-use Rattle.rx_rules.specs.Reached.{IsOlder}
-use Rattle.rx_rules.specs.Run.{Given, IsDue, NoRoot, rest_of, in_all, plan_of}
 use Rattle.rx_runs.specs.Ties.{MayBe, MayCome}
 use Rattle.rx_rules.proofs.Append.{tree-push}
 use Rattle.rx_sound.specs.Sound.{Each}

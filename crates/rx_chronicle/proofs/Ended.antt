@@ -1,16 +1,10 @@
 -- After the root's release no task is left, so none can act, and the root is not released twice.
-use Rattle.std.specs.Prelude.{◌≡◌, Bool, true, false, List, [], ◌∷◌, ◌++◌, Some, None, refl}
-use Rattle.std.proofs.Common.{ap, ◌∙◌, sym}
-use Rattle.rx_base.specs.declared.ids.TaskId.{TaskId}
+use Rattle.std.proofs.Common.{◌≡◌, Bool, true, false, List, [], ◌∷◌, ◌++◌, Some, None, refl, ap, ◌∙◌, sym}
+use Rattle.rx_rules.proofs.Common.{TaskId, is_task, AllowedAct, opening, tree_of, opens, Given, Folds, NoRoot, EndsWithRoot}
 use Rattle.rx_rules.specs.declared.tasks.Task.{Task}
 use Rattle.rx_rules.specs.declared.entries.Act.{Act}
 use Rattle.rx_rules.specs.declared.entries.Entry.{Entry}
 use Rattle.rx_rules.specs.declared.entries.Entry.TheVariants.{Step, Root, Death, Join}
-use Rattle.rx_rules.specs.Tree.{is_task}
-use Rattle.rx_rules.specs.Entries.{AllowedAct}
-use Rattle.rx_rules.specs.Fold.{opening, tree_of}
-use Rattle.rx_rules.specs.Reached.{opens}
-use Rattle.rx_rules.specs.Run.{Given, Folds, NoRoot, EndsWithRoot}
 use Rattle.rx_rules.proofs.Append.{no_root-push}
 use Rattle.rx_sound.proofs.Histories.{none_yet}
 use Rattle.rx_runs.proofs.Endings.{empty_at_end}

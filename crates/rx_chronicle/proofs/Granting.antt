@@ -1,17 +1,9 @@
 -- A chronicle whose ledger has granted a request, or refused it.
-use Rattle.std.specs.Prelude.{◌≡◌, ℕ, Bool, true, false, List, [], ◌∷◌, ◌++◌, map, length, Some, None, Err, refl}
-use Rattle.std.proofs.Common.{ap, ◌∙◌, sym, subst, append-nil}
-use Rattle.rx_base.specs.declared.ids.PlaceId.{PlaceId}
-use Rattle.rx_base.specs.declared.ids.TaskId.{TaskId}
-use Rattle.rx_base.specs.declared.ids.ScopeId.{ScopeId}
-use Rattle.rx_base.specs.declared.place_set.PlaceSet.{PlaceSet}
-use Rattle.rx_base.specs.declared.values.Fault.{Fault}
+use Rattle.std.proofs.Common.{◌≡◌, ℕ, Bool, true, false, List, [], ◌∷◌, ◌++◌, map, length, Some, None, Err, refl, ap, ◌∙◌, sym, subst, append-nil}
+use Rattle.rx_rules.proofs.Common.{PlaceId, TaskId, ScopeId, PlaceSet, Fault, Tree, quiet, the_root, AllowedAct, Allowed, made_act, without, Event, NoneDue}
 use Rattle.rx_rules.specs.declared.entries.Act.{Act}
 use Rattle.rx_rules.specs.declared.entries.Entry.{Entry}
 use Rattle.rx_rules.specs.declared.entries.Entry.TheVariants.{Step, Root}
-use Rattle.rx_rules.specs.Tree.{Tree, quiet, the_root}
-use Rattle.rx_rules.specs.Entries.{AllowedAct, Allowed, made_act, without}
-use Rattle.rx_rules.specs.Run.{Event, NoneDue}
 use Rattle.rx_sound.specs.Sound.{Each}
 use Rattle.rx_sound.specs.Histories.{RootStands}
 use Rattle.rx_history.specs.Logs.{Log}

@@ -1,12 +1,8 @@
 -- Each own scope of an unstruck task has the one before it as its parent, and the oldest the scope that the task hangs under.
-use Rattle.std.specs.Prelude.{◌≡◌, ◌≢◌, ℕ, suc, ◌<◌, ◌≤◌, ◌==◌, Bool, true, false, cond, not, ◌&&◌, List, [], ◌∷◌, ◌++◌, map, filter, Option, Some, None, is_some, is_none, option_map, All, refl}
+use Rattle.std.proofs.Common.{◌≡◌, ◌≢◌, ℕ, suc, ◌<◌, ◌≤◌, ◌==◌, Bool, true, false, cond, not, ◌&&◌, List, [], ◌∷◌, ◌++◌, map, filter, Option, Some, None, is_some, is_none, option_map, All, refl, ap, ◌∙◌, sym, subst, arith}
 use Rattle.std.specs.List.{find}
-use Rattle.std.proofs.Common.{ap, ◌∙◌, sym, subst, arith}
 use Rattle.std.proofs.lemmas.Bool.{eqb-true, eqb-false, ne_eqb}
-use Rattle.rx_base.specs.declared.ids.TaskId.{TaskId}
-use Rattle.rx_base.specs.declared.ids.ScopeId.{ScopeId}
-use Rattle.rx_base.specs.declared.place_set.PlaceSet.{PlaceSet}
-use Rattle.rx_base.specs.declared.values.Fault.{Fault}
+use Rattle.rx_rules.proofs.Common.{TaskId, ScopeId, PlaceSet, Fault, Tree, is_task, task_of, is_scope, is_under, opened_by, inner, the_root, change_first, waiting, resumed, born, hit, is_hit, made, made_act, after_end, Allowed, AllowedAct, without, home_for, change_scope, AllAllowed, fold_from, Reached, IsOlder}
 use Rattle.rx_base.proofs.SameIds.{task-is}
 use Rattle.rx_rules.specs.declared.entries.Act.{Act}
 use Rattle.rx_rules.specs.declared.entries.Act.TheVariants.{Open, At as Calls, Spawn, Arrive, Wait, Release, End, Print, Census}
@@ -18,10 +14,6 @@ use Rattle.rx_rules.specs.declared.tasks.Task.{Task}
 use Rattle.rx_rules.specs.declared.tasks.Scope.{Scope}
 use Rattle.rx_rules.specs.declared.tasks.Kind.{Kind}
 use Rattle.rx_rules.specs.declared.tasks.Kind.TheVariants.{Finish, Call}
-use Rattle.rx_rules.specs.Tree.{Tree, is_task, task_of, is_scope, is_under, opened_by, inner, the_root}
-use Rattle.rx_rules.specs.Entries.{change_first, waiting, resumed, born, hit, is_hit, made, made_act, after_end, Allowed, AllowedAct, without, home_for, change_scope}
-use Rattle.rx_rules.specs.Fold.{AllAllowed, fold_from}
-use Rattle.rx_rules.specs.Reached.{Reached, IsOlder}
 use Rattle.rx_rules.proofs.Lookups.{number-of}
 use Rattle.rx_sound.specs.Chains.{Opened, HasOpener}
 use Rattle.rx_sound.specs.Sound.{TasksFall}

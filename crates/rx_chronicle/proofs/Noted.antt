@@ -1,8 +1,6 @@
 -- The parents and openers of scopes are those that the entries tell.
-use Rattle.std.specs.Prelude.{◌≡◌, ◌≢◌, ℕ, zero, suc, ◌+◌, ◌<◌, not, List, [], ◌∷◌, ◌++◌, length, slice_index_or, Some, refl}
-use Rattle.std.proofs.Common.{ap, ◌∙◌, sym, subst, arith, append_assoc, append-nil, length-append}
-use Rattle.rx_base.specs.declared.ids.TaskId.{TaskId}
-use Rattle.rx_base.specs.declared.ids.ScopeId.{ScopeId}
+use Rattle.std.proofs.Common.{◌≡◌, ◌≢◌, ℕ, zero, suc, ◌+◌, ◌<◌, not, List, [], ◌∷◌, ◌++◌, length, slice_index_or, Some, refl, ap, ◌∙◌, sym, subst, arith, append_assoc, append-nil, length-append}
+use Rattle.rx_rules.proofs.Common.{TaskId, ScopeId, Tree, is_scope, on_chain, the_root, made, made_act, after_end, Allowed, AllowedAct, without, home_for, AllAllowed, fold_from, opening, tree_of, Given, Folds}
 use Rattle.rx_rules.specs.declared.entries.Act.{Act}
 use Rattle.rx_rules.specs.declared.entries.Act.TheVariants.{Open, At as Calls, Spawn, Arrive, Wait, Release, End, Print, Census}
 use Rattle.rx_rules.specs.declared.entries.Entry.{Entry}
@@ -10,10 +8,6 @@ use Rattle.rx_rules.specs.declared.entries.Entry.TheVariants.{Step, Root, Death,
 use Rattle.rx_rules.specs.declared.tasks.Scope.{Scope}
 use Rattle.rx_rules.specs.declared.tasks.Kind.{Kind}
 use Rattle.rx_rules.specs.declared.tasks.Kind.TheVariants.{Finish, Call}
-use Rattle.rx_rules.specs.Tree.{Tree, is_scope, on_chain, the_root}
-use Rattle.rx_rules.specs.Entries.{made, made_act, after_end, Allowed, AllowedAct, without, home_for}
-use Rattle.rx_rules.specs.Fold.{AllAllowed, fold_from, opening, tree_of}
-use Rattle.rx_rules.specs.Run.{Given, Folds}
 use Rattle.rx_sound.specs.Sound.{Each}
 use Rattle.rx_sound.proofs.Changes.{each_more, each_filter, each_change}
 use Rattle.rx_chronicle.specs.Told.{parents_by, parents_in, parents_told, openers_by, openers_in, openers_told, no_opener}

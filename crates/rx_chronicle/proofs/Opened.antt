@@ -1,11 +1,7 @@
 -- A chronicle without entries.
-use Rattle.std.specs.Prelude.{◌≡◌, ℕ, ◌+◌, ◌-◌, length, ◌%◌, ◌^◌, ◌<◌, ◌≤◌, ◌==◌, false, List, [], ◌∷◌, refl}
-use Rattle.std.proofs.Common.{ap, sym, subst, arith}
+use Rattle.std.proofs.Common.{◌≡◌, ℕ, ◌+◌, ◌-◌, length, ◌%◌, ◌^◌, ◌<◌, ◌≤◌, ◌==◌, false, List, [], ◌∷◌, refl, ap, sym, subst, arith}
 use Rattle.std.proofs.Math.Nat.{zero-div}
-use Rattle.rx_base.specs.Sets.{has_bit}
-use Rattle.rx_rules.specs.Tree.{Tree, the_root}
-use Rattle.rx_rules.specs.Fold.{opening}
-use Rattle.rx_rules.specs.Run.{Event, Given, Proper, plan_of}
+use Rattle.rx_rules.proofs.Common.{has_bit, Tree, the_root, opening, Event, Given, Proper, plan_of}
 use Rattle.rx_history.specs.Logs.{Log}
 use Rattle.rx_history.specs.Setups.{given}
 use Rattle.rx_history.specs.declared.setup.Setup.{Setup}

@@ -1,6 +1,5 @@
 -- A note with another bound.
-use Rattle.std.specs.Prelude.{◌≡◌, ℕ, zero, suc, List, [], ◌∷◌, map, get_or, slice_set, refl}
-use Rattle.std.proofs.Common.{ap, ◌∙◌}
+use Rattle.std.proofs.Common.{◌≡◌, ℕ, zero, suc, List, [], ◌∷◌, map, get_or, slice_set, refl, ap, ◌∙◌}
 use Rattle.rx_chronicle.specs.declared.notes.Note.{Note}
 
 -- what is read of a note beside its bound

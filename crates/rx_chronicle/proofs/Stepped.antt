@@ -1,20 +1,10 @@
 -- The entry of a task, and of the host.
-use Rattle.std.specs.Prelude.{◌≡◌, ℕ, ◌+◌, ◌-◌, not, Bool, true, false, List, [], ◌∷◌, ◌++◌, length, map, refl}
-use Rattle.std.proofs.Common.{ap, ◌∙◌, sym, subst, arith, append-nil}
+use Rattle.std.proofs.Common.{◌≡◌, ℕ, ◌+◌, ◌-◌, not, Bool, true, false, List, [], ◌∷◌, ◌++◌, length, map, refl, ap, ◌∙◌, sym, subst, arith, append-nil}
 use Rattle.std.proofs.Math.Bool.{or-false}
-use Rattle.rx_base.specs.declared.ids.TaskId.{TaskId}
-use Rattle.rx_base.specs.declared.ids.PlaceId.{PlaceId}
-use Rattle.rx_base.specs.declared.ids.ScopeId.{ScopeId}
-use Rattle.rx_rules.specs.Run.{Event}
-use Rattle.rx_base.specs.declared.values.Fault.{Fault}
-use Rattle.rx_base.specs.declared.place_set.PlaceSet.{PlaceSet}
+use Rattle.rx_rules.proofs.Common.{TaskId, PlaceId, ScopeId, Event, Fault, PlaceSet, Tree, on_chain, the_root, AllowedAct, Allowed, made_act, without, opening, tree_of, Given, NoneDue, in_all, plan_of, death_number}
 use Rattle.rx_rules.specs.declared.entries.Act.{Act}
 use Rattle.rx_rules.specs.declared.entries.Entry.{Entry}
 use Rattle.rx_rules.specs.declared.entries.Entry.TheVariants.{Step, Root}
-use Rattle.rx_rules.specs.Tree.{Tree, on_chain, the_root}
-use Rattle.rx_rules.specs.Entries.{AllowedAct, Allowed, made_act, without}
-use Rattle.rx_rules.specs.Fold.{opening, tree_of}
-use Rattle.rx_rules.specs.Run.{Given, NoneDue, in_all, plan_of, death_number}
 use Rattle.rx_rules.proofs.Append.{tree-push, root-push, act-places}
 use Rattle.rx_sound.specs.Sound.{Each}
 use Rattle.rx_sound.proofs.Changes.{each_filter}

@@ -1,15 +1,9 @@
 -- What a release uncovers: the parent of the released scope, as the entries tell it.
-use Rattle.std.specs.Prelude.{◌≡◌, ◌≢◌, ℕ, ◌<◌, not, List, ◌∷◌, map, filter, slice_index_or, Some, is_some, ◌&&◌, refl}
-use Rattle.std.proofs.Common.{ap, ◌∙◌, sym, subst, arith}
-use Rattle.rx_base.specs.declared.ids.TaskId.{TaskId}
-use Rattle.rx_base.specs.declared.ids.ScopeId.{ScopeId}
+use Rattle.std.proofs.Common.{◌≡◌, ◌≢◌, ℕ, ◌<◌, not, List, ◌∷◌, map, filter, slice_index_or, Some, is_some, ◌&&◌, refl, ap, ◌∙◌, sym, subst, arith}
+use Rattle.rx_rules.proofs.Common.{TaskId, ScopeId, Tree, is_under, opened_by, the_root, resumed, made_act, without, opening, tree_of, opens}
 use Rattle.rx_rules.specs.declared.entries.Act.TheVariants.{Release}
 use Rattle.rx_rules.specs.declared.tasks.Task.{Task}
 use Rattle.rx_rules.specs.declared.tasks.Scope.{Scope}
-use Rattle.rx_rules.specs.Tree.{Tree, is_under, opened_by, the_root}
-use Rattle.rx_rules.specs.Entries.{resumed, made_act, without}
-use Rattle.rx_rules.specs.Fold.{opening, tree_of}
-use Rattle.rx_rules.specs.Reached.{opens}
 use Rattle.rx_rules.proofs.Lookups.{number-of}
 use Rattle.rx_sound.specs.Sound.{Each}
 use Rattle.rx_sound.proofs.Changes.{each_filter}

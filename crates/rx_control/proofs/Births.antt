@@ -1,7 +1,6 @@
 -- The task that the statement at the front starts.
-use Rattle.std.proofs.Common.{◌≡◌, ℕ, suc, List, ◌∷◌, ◌++◌, Option, ap, ◌∙◌}
-use Rattle.std.specs.Prelude.{option_to_list}
-use Rattle.rx_rules.specs.Terms.{Term, Run, stmt_child, child, at}
+use Rattle.std.proofs.Common.{◌≡◌, ℕ, suc, List, ◌∷◌, ◌++◌, Option, ap, ◌∙◌, option_to_list}
+use Rattle.rx_rules.proofs.Common.{Term, Run, stmt_child, child, at}
 use Rattle.rx_syntax.specs.Shape.{Shape}
 use Rattle.rx_syntax.specs.declared.nodes.BlockId.{BlockId}
 use Rattle.rx_control.specs.Levels.{More, seq}

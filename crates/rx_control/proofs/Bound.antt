@@ -1,12 +1,7 @@
 -- Each step of a term leaves fewer.
-use Rattle.std.proofs.Common.{◌≡◌, ℕ, zero, suc, ◌+◌, ◌-◌, ◌*◌, ◌<◌, ◌≤◌, List, [], ◌∷◌, Option, Some, Bool, true, false, cond, ◌==◌, ℤ, max, refl, ap, arith}
-use Rattle.std.specs.Prelude.{Result, Ok, Err, nat_le}
+use Rattle.std.proofs.Common.{◌≡◌, ℕ, zero, suc, ◌+◌, ◌-◌, ◌*◌, ◌<◌, ◌≤◌, List, [], ◌∷◌, Option, Some, Bool, true, false, cond, ◌==◌, ℤ, max, refl, ap, arith, Result, Ok, Err, nat_le}
 use Rattle.std.proofs.lemmas.Option.{none-some}
-use Rattle.rx_base.specs.declared.values.Fault.{Fault}
-use Rattle.rx_base.specs.declared.values.Fault.TheVariants.{WrongPlace, Thrown}
-use Rattle.rx_base.specs.declared.values.Value.TheVariants.{Num as Number}
-use Rattle.rx_rules.specs.Code.{Block, Nothing, Then, Stmt, SetTo, New, Get, Put, Forget, Census, Print, Throw, Async, AtAsync, At, Finish, If, Repeat, Try, work, work_of}
-use Rattle.rx_rules.specs.Terms.{Vars, Term, Empty, Run, Raise, Turns, Trying, Body, Held, items, items_from, at, Does, Local, Makes, Gets, Puts, Forgets, Opens, Calls, Spawns, Waits, Releases, Prints, Counts, Done, does, stmt_does, begins, child, stmt_child, with_number, with_place, raise, bound, eval, target_of, ref_in, value_of, is_zero, catches, within, granted, stmt_granted, or_raise, replaced, after_it, Answer, Gives, Fine, Fails, answered}
+use Rattle.rx_rules.proofs.Common.{Fault, WrongPlace, Thrown, Number, Block, Nothing, Then, Stmt, SetTo, New, Get, Put, Forget, Census, Print, Throw, Async, AtAsync, At, Finish, If, Repeat, Try, work, work_of, Vars, Term, Empty, Run, Raise, Turns, Trying, Body, Held, items, items_from, at, Does, Local, Makes, Gets, Puts, Forgets, Opens, Calls, Spawns, Waits, Releases, Prints, Counts, Done, does, stmt_does, begins, child, stmt_child, with_number, with_place, raise, bound, eval, target_of, ref_in, value_of, is_zero, catches, within, granted, stmt_granted, or_raise, replaced, after_it, Answer, Gives, Fine, Fails, answered}
 use Rattle.rx_runs.specs.Steps.{steps, Sinks}
 use Rattle.rx_runs.proofs.Sinking.{sinks, steps_items}
 use Rattle.rx_control.specs.Bound.{StepFalls}

@@ -1,11 +1,8 @@
 -- What stands at the front of a stack, and what it does.
-use Rattle.std.proofs.Common.{◌≡◌, ℕ, suc, ◌+◌, ◌-◌, ◌<◌, List, [], ◌∷◌, ◌++◌, length, drop, Option, Some, None, Bool, cond, refl, ap, sym, ◌∙◌, subst, append_assoc, arith, length-drop, add-one}
-use Rattle.std.specs.Prelude.{nat_le, slice_get, option_to_list, IfSome}
+use Rattle.std.proofs.Common.{◌≡◌, ℕ, suc, ◌+◌, ◌-◌, ◌<◌, List, [], ◌∷◌, ◌++◌, length, drop, Option, Some, None, Bool, cond, refl, ap, sym, ◌∙◌, subst, append_assoc, arith, length-drop, add-one, nat_le, slice_get, option_to_list, IfSome}
 use Rattle.std.proofs.lemmas.List.{at_drop_more}
 use Rattle.std.proofs.lemmas.Option.{slice_get_within, get_or_from_slice_get}
-use Rattle.rx_base.specs.declared.values.Fault.{Fault}
-use Rattle.rx_rules.specs.Code.{Block, Stmt, Nothing, Then}
-use Rattle.rx_rules.specs.Terms.{Vars, Empty, Run, Raise, Turns, Trying, Body as BodyTerm, Held as HeldTerm, Does, Local, Makes, Gets, Puts, Forgets, Opens, Calls, Spawns, Waits, Releases, Prints, Counts, Done, does, stmt_does, items, at, catches}
+use Rattle.rx_rules.proofs.Common.{Fault, Block, Stmt, Nothing, Then, Vars, Empty, Run, Raise, Turns, Trying, Body as BodyTerm, Held as HeldTerm, Does, Local, Makes, Gets, Puts, Forgets, Opens, Calls, Spawns, Waits, Releases, Prints, Counts, Done, does, stmt_does, items, at, catches}
 use Rattle.rx_syntax.specs.declared.nodes.StmtId.{StmtId}
 use Rattle.rx_syntax.specs.declared.nodes.BlockId.{BlockId}
 use Rattle.rx_syntax.specs.declared.nodes.Stmt.{Stmt as Node}

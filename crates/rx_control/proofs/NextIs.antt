@@ -1,8 +1,6 @@
 -- What the term of a control does, by its innermost frame.
-use Rattle.std.proofs.Common.{◌≡◌, ℕ, suc, List, [], ◌∷◌, ◌++◌, Option, Some, None, Bool, cond, refl, ap, sym, ◌∙◌, subst}
-use Rattle.std.specs.Prelude.{nat_le, option_to_list}
-use Rattle.rx_base.specs.declared.values.Fault.{Fault}
-use Rattle.rx_rules.specs.Terms.{Vars, Term, Raise, Turns as TurnsTerm, Does, Local, Waits, Releases, Done, does, stmt_does, items, at, catches}
+use Rattle.std.proofs.Common.{◌≡◌, ℕ, suc, List, [], ◌∷◌, ◌++◌, Option, Some, None, Bool, cond, refl, ap, sym, ◌∙◌, subst, nat_le, option_to_list}
+use Rattle.rx_rules.proofs.Common.{Fault, Vars, Term, Raise, Turns as TurnsTerm, Does, Local, Waits, Releases, Done, does, stmt_does, items, at, catches}
 use Rattle.rx_syntax.specs.declared.nodes.BlockId.{BlockId}
 use Rattle.rx_syntax.specs.Shape.{Shape}
 use Rattle.rx_control.specs.Levels.{More, seq, wrap, term_of}

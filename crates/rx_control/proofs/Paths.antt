@@ -1,6 +1,5 @@
 -- What a path has behind another.
-use Rattle.std.proofs.Common.{◌≡◌, ℕ, List, ◌++◌, ap, sym, ◌∙◌, append_assoc}
-use Rattle.std.specs.Prelude.{◌↔◌}
+use Rattle.std.proofs.Common.{◌≡◌, ℕ, List, ◌++◌, ap, sym, ◌∙◌, append_assoc, ◌↔◌}
 use Rattle.std.proofs.lemmas.List.{append_cancel_left}
 
 -- a path with left behind the base goes on behind the base and what is added as left goes on behind what is added

@@ -1,12 +1,8 @@
 -- The faults of the places of a set, one place after another.
-use Rattle.std.specs.Prelude.{◌≡◌, ℕ, ◌+◌, ◌<◌, true, false, List, [], ◌∷◌, ◌++◌, map, filter, drop, Some, slice_get, length, refl}
-use Rattle.std.proofs.Common.{ap, ◌∙◌, sym, subst}
+use Rattle.std.proofs.Common.{◌≡◌, ℕ, ◌+◌, ◌<◌, true, false, List, [], ◌∷◌, ◌++◌, map, filter, drop, Some, slice_get, length, refl, ap, ◌∙◌, sym, subst}
 use Rattle.std.proofs.lemmas.List.{at_drop_more, append_assoc, append-nil}
 use Rattle.std.proofs.lemmas.Option.{slice_get_within, get_or_from_slice_get}
-use Rattle.rx_base.specs.declared.place_set.PlaceSet.{PlaceSet}
-use Rattle.rx_base.specs.declared.values.Fault.{Fault}
-use Rattle.rx_base.specs.declared.values.Fault.TheVariants.{Dead}
-use Rattle.rx_base.specs.Sets.{all_places, has_bit, members}
+use Rattle.rx_rules.proofs.Common.{PlaceSet, Fault, Dead, all_places, has_bit, members}
 use Rattle.rx_base.proofs.Elements.{empty-from}
 use Rattle.rx_base.proofs.Members.{place-at}
 

@@ -1,9 +1,7 @@
 -- Taking off what is over.
-use Rattle.std.proofs.Common.{◌≡◌, ℕ, ◌-◌, ◌<◌, ◌≤◌, List, [], ◌∷◌, ◌++◌, length, drop, take, Option, Some, None, true, false, refl, ap, sym, ◌∙◌, subst, arith, length-drop, length-append}
-use Rattle.std.specs.Prelude.{slice_get, option_to_list, IfSome, nat_le}
+use Rattle.std.proofs.Common.{◌≡◌, ℕ, ◌-◌, ◌<◌, ◌≤◌, List, [], ◌∷◌, ◌++◌, length, drop, take, Option, Some, None, true, false, refl, ap, sym, ◌∙◌, subst, arith, length-drop, length-append, slice_get, option_to_list, IfSome, nat_le}
 use Rattle.std.proofs.lemmas.Bool.Decides.{nat_tests}
-use Rattle.rx_base.specs.declared.values.Fault.{Fault}
-use Rattle.rx_rules.specs.Code.{Block, Nothing, Then}
+use Rattle.rx_rules.proofs.Common.{Fault, Block, Nothing, Then}
 use Rattle.rx_control.specs.Levels.{Level, More, Again, Tried, Inside, Waiting, Settled, term_of}
 use Rattle.rx_syntax.specs.Shape.{Shape, ListStands}
 use Rattle.rx_syntax.specs.declared.nodes.StmtId.{StmtId}

@@ -1,8 +1,6 @@
 -- A control at the front of a block.
-use Rattle.std.specs.Prelude.{MatchOption}
-use Rattle.std.proofs.Common.{◌≡◌, ℕ, List, [], ◌∷◌, ◌++◌, Option, Some, None, refl, ap, sym, ◌∙◌, subst, append-nil}
-use Rattle.rx_rules.specs.Code.{Stmt as Tree, Block}
-use Rattle.rx_rules.specs.Terms.{Term, Empty, items, stmt_child}
+use Rattle.std.proofs.Common.{MatchOption, ◌≡◌, ℕ, List, [], ◌∷◌, ◌++◌, Option, Some, None, refl, ap, sym, ◌∙◌, subst, append-nil}
+use Rattle.rx_rules.proofs.Common.{Stmt as Tree, Block, Term, Empty, items, stmt_child}
 use Rattle.rx_syntax.specs.declared.nodes.BlockId.{BlockId}
 use Rattle.rx_syntax.specs.declared.nodes.Stmt.{Stmt}
 use Rattle.rx_syntax.specs.Shape.{Shape, StmtIs, BlockStands}

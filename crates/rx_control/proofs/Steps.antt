@@ -1,10 +1,7 @@
 -- The steps of a stack.
-use Rattle.std.proofs.Common.{◌≡◌, ℕ, suc, ◌+◌, ◌<◌, ◌≤◌, List, [], ◌∷◌, ◌++◌, Option, Some, None, Bool, true, false, cond, refl, ap, sym, ◌∙◌, subst, arith, append-nil}
-use Rattle.std.specs.Prelude.{nat_le, option_to_list}
+use Rattle.std.proofs.Common.{◌≡◌, ℕ, suc, ◌+◌, ◌<◌, ◌≤◌, List, [], ◌∷◌, ◌++◌, Option, Some, None, Bool, true, false, cond, refl, ap, sym, ◌∙◌, subst, arith, append-nil, nat_le, option_to_list}
 use Rattle.std.proofs.lemmas.Bool.Decides.{nat_tests}
-use Rattle.rx_base.specs.declared.values.Fault.{Fault}
-use Rattle.rx_rules.specs.Code.{Block, Then}
-use Rattle.rx_rules.specs.Terms.{Vars, Term, Does, Local, at}
+use Rattle.rx_rules.proofs.Common.{Fault, Block, Then, Vars, Term, Does, Local, at}
 use Rattle.rx_syntax.specs.declared.nodes.BlockId.{BlockId}
 use Rattle.rx_syntax.specs.Shape.{Shape, BlockStands}
 use Rattle.rx_control.specs.Levels.{Level, More, Again, Tried, wrap, term_of}

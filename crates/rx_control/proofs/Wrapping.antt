@@ -1,8 +1,6 @@
 -- What a term does, seen from the tries and finishes around it.
 use Rattle.std.proofs.Common.{◌≡◌, ℕ, List, [], ◌∷◌, Bool, refl, ap, sym, ◌∙◌}
-use Rattle.rx_base.specs.declared.values.Fault.{Fault}
-use Rattle.rx_rules.specs.Code.{Block}
-use Rattle.rx_rules.specs.Terms.{Vars, Term, Empty, Run, Raise, Turns, Trying, Body, Held, Does, Local, Makes, Gets, Puts, Forgets, Opens, Calls, Spawns, Waits, Releases, Prints, Counts, Done, does, within, begins, granted, child, replaced, after_it, receives, trying_does, body_does, body_granted}
+use Rattle.rx_rules.proofs.Common.{Fault, Block, Vars, Term, Empty, Run, Raise, Turns, Trying, Body, Held, Does, Local, Makes, Gets, Puts, Forgets, Opens, Calls, Spawns, Waits, Releases, Prints, Counts, Done, does, within, begins, granted, child, replaced, after_it, receives, trying_does, body_does, body_granted}
 use Rattle.rx_control.specs.Levels.{Level, More, Again, Tried, Inside, Waiting, seq, wrap}
 use Rattle.rx_control.specs.Inside.Front.{lifted}
 

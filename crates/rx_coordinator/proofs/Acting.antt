@@ -1,22 +1,14 @@
 -- Which requests a row may make, and which it may not.
-use Rattle.std.specs.Prelude.{◌≡◌, ◌≢◌, ℕ, ◌+◌, ◌<◌, ◌≤◌, ◌==◌, Bool, true, false, cond, not, List, [], length, Option, Some, None, is_some, option_map, All, IsSome, refl}
-use Rattle.std.proofs.Common.{rules, ap, ◌∙◌, sym, subst, arith}
+use Rattle.std.proofs.Common.{◌≡◌, ◌≢◌, ℕ, ◌+◌, ◌<◌, ◌≤◌, ◌==◌, Bool, true, false, cond, not, List, [], length, Option, Some, None, is_some, option_map, All, IsSome, refl, rules, ap, ◌∙◌, sym, subst, arith}
 use Rattle.std.proofs.lemmas.Bool.{true≢false, eqb-true, eqb-false, not-true}
-use Rattle.rx_base.specs.declared.ids.TaskId.{TaskId}
-use Rattle.rx_base.specs.declared.ids.ScopeId.{ScopeId}
-use Rattle.rx_base.specs.declared.ids.PlaceId.{PlaceId}
+use Rattle.rx_rules.proofs.Common.{TaskId, ScopeId, PlaceId, Fault, Tree, is_finish, task_of, scope_of, inner, own_scope, opened_by, the_root, AllowedAct, Allowed, made_act, tree_of, opening, Reached, IsOlder}
 use Rattle.rx_base.proofs.SameIds.{task-is, scope-is}
-use Rattle.rx_base.specs.declared.values.Fault.{Fault}
 use Rattle.rx_rules.specs.declared.tasks.Scope.{Scope}
 use Rattle.rx_rules.specs.declared.tasks.Kind.{Kind}
 use Rattle.rx_rules.specs.declared.tasks.Kind.TheVariants.{Finish, Call}
 use Rattle.rx_rules.specs.declared.entries.Act.TheVariants.{At as CallAct, Spawn as SpawnAct, Wait as WaitAct, End as EndAct}
 use Rattle.rx_rules.specs.declared.entries.Entry.TheVariants.{Death as DeathEntry}
-use Rattle.rx_rules.specs.Tree.{Tree, is_finish, task_of, scope_of, inner, own_scope, opened_by, the_root}
-use Rattle.rx_rules.specs.Entries.{AllowedAct, Allowed, made_act}
-use Rattle.rx_rules.specs.Fold.{tree_of, opening}
 use Rattle.rx_rules.specs.declared.entries.Entry.{Entry}
-use Rattle.rx_rules.specs.Reached.{Reached, IsOlder}
 use Rattle.rx_rules.proofs.Lookups.{number-of}
 use Rattle.rx_sound.specs.Sound.{Sound}
 use Rattle.rx_sound.proofs.Reached.{sound}

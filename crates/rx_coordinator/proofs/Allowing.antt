@@ -1,19 +1,11 @@
 -- Requests that may be made: an entry for each.
-use Rattle.std.specs.Prelude.{◌≡◌, ◌≢◌, ℕ, ◌-◌, ◌<◌, ◌≤◌, ◌^◌, true, List, [], length, is_some, refl}
-use Rattle.std.proofs.Common.{arith, inl}
-use Rattle.rx_base.specs.declared.ids.TaskId.{TaskId}
-use Rattle.rx_base.specs.declared.ids.ScopeId.{ScopeId}
-use Rattle.rx_base.specs.declared.ids.PlaceId.{PlaceId}
-use Rattle.rx_base.specs.declared.values.Fault.{Fault}
+use Rattle.std.proofs.Common.{◌≡◌, ◌≢◌, ℕ, ◌-◌, ◌<◌, ◌≤◌, ◌^◌, true, List, [], length, is_some, refl, arith, inl}
+use Rattle.rx_rules.proofs.Common.{TaskId, ScopeId, PlaceId, Fault, Tree, scope_of, inner, governs, death_of, Allowed, tree_of, Reached}
 use Rattle.rx_rules.specs.declared.tasks.Where.{Where}
 use Rattle.rx_rules.specs.declared.tasks.Where.TheVariants.{At, Travel}
 use Rattle.rx_rules.specs.declared.entries.Act.TheVariants.{Open as OpenAct, At as CallAct, Spawn as SpawnAct, Arrive as ArriveAct, Wait as WaitAct, End as EndAct}
 use Rattle.rx_rules.specs.declared.entries.Entry.{Entry}
 use Rattle.rx_rules.specs.declared.entries.Entry.TheVariants.{Step, Death as DeathEntry, Join as JoinEntry}
-use Rattle.rx_rules.specs.Tree.{Tree, scope_of, inner, governs, death_of}
-use Rattle.rx_rules.specs.Entries.{Allowed}
-use Rattle.rx_rules.specs.Fold.{tree_of}
-use Rattle.rx_rules.specs.Reached.{Reached}
 use Rattle.rx_finish.specs.declared.ledger.Born.{Born}
 use Rattle.rx_finish.specs.Callers.{does_travel}
 use Rattle.rx_coordinator.specs.declared.seats.Seat.{Seat}

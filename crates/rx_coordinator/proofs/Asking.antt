@@ -1,9 +1,7 @@
 -- What a row says of its task, and that the ledger may be asked for it.
-use Rattle.std.specs.Prelude.{◌≡◌, ◌≢◌, ℕ, ◌+◌, ◌-◌, ◌==◌, Bool, true, false, cond, List, [], ◌∷◌, ◌++◌, length, Option, Some, None, is_none, refl}
-use Rattle.std.proofs.Common.{ap, ◌∙◌, sym, subst, arith, inl, length-append}
+use Rattle.std.proofs.Common.{◌≡◌, ◌≢◌, ℕ, ◌+◌, ◌-◌, ◌==◌, Bool, true, false, cond, List, [], ◌∷◌, ◌++◌, length, Option, Some, None, is_none, refl, ap, ◌∙◌, sym, subst, arith, inl, length-append}
 use Rattle.std.proofs.lemmas.Bool.{eqb-true, eqb-false, eq-eqb, ne_eqb, true≢false}
-use Rattle.rx_base.specs.declared.ids.TaskId.{TaskId}
-use Rattle.rx_base.specs.declared.ids.PlaceId.{PlaceId}
+use Rattle.rx_rules.proofs.Common.{TaskId, PlaceId, Tree, task_of, AllowedAct, Allowed, made, made_act, tree_of, opening}
 use Rattle.rx_base.proofs.SameIds.{task-is}
 use Rattle.rx_rules.specs.declared.tasks.Where.{Where}
 use Rattle.rx_rules.specs.declared.tasks.Where.TheVariants.{At, Travel}
@@ -12,9 +10,6 @@ use Rattle.rx_rules.specs.declared.tasks.Task.{Task}
 use Rattle.rx_rules.specs.declared.entries.Act.{Act}
 use Rattle.rx_rules.specs.declared.entries.Entry.{Entry}
 use Rattle.rx_rules.specs.declared.entries.Entry.TheVariants.{Step}
-use Rattle.rx_rules.specs.Tree.{Tree, task_of}
-use Rattle.rx_rules.specs.Entries.{AllowedAct, Allowed, made, made_act}
-use Rattle.rx_rules.specs.Fold.{tree_of, opening}
 use Rattle.rx_rules.proofs.Lookups.{number-of}
 use Rattle.rx_rules.proofs.Append.{tree-push, act-places}
 use Rattle.rx_runs.proofs.Append.{allowed-push}

@@ -1,13 +1,8 @@
 -- The rows of tasks that are started, of the host's release, and of a task that releases its scope.
-use Rattle.std.specs.Prelude.{◌≡◌, ◌≢◌, ℕ, ◌≤◌, ◌==◌, Bool, true, false, cond, not, ◌&&◌, filter, map, List, [], ◌∷◌, Option, Some, None, is_some, is_none, option_map, refl}
+use Rattle.std.proofs.Common.{◌≡◌, ◌≢◌, ℕ, ◌≤◌, ◌==◌, Bool, true, false, cond, not, ◌&&◌, filter, map, List, [], ◌∷◌, Option, Some, None, is_some, is_none, option_map, refl, ap, ◌∙◌, sym, subst, arith}
 use Rattle.std.specs.List.{find}
-use Rattle.std.proofs.Common.{ap, ◌∙◌, sym, subst, arith}
 use Rattle.std.proofs.lemmas.Bool.{eq-eqb, ne_eqb, not-true}
-use Rattle.rx_base.specs.declared.ids.TaskId.{TaskId}
-use Rattle.rx_base.specs.declared.ids.ScopeId.{ScopeId}
-use Rattle.rx_base.specs.declared.ids.PlaceId.{PlaceId}
-use Rattle.rx_base.specs.declared.place_set.PlaceSet.{PlaceSet}
-use Rattle.rx_base.specs.declared.values.Fault.{Fault}
+use Rattle.rx_rules.proofs.Common.{TaskId, ScopeId, PlaceId, PlaceSet, Fault, Tree, is_task, task_of, scope_of, opened_by, is_under, inner, quiet, death_of, the_root, waiting, resumed, born, without, AllowedAct, made_act, AllAllowed, opening, tree_of, Reached, opens}
 use Rattle.rx_base.proofs.SameIds.{task-is}
 use Rattle.rx_rules.specs.declared.tasks.Where.TheVariants.{At, Travel}
 use Rattle.rx_rules.specs.declared.tasks.Blow.{Blow}
@@ -15,10 +10,6 @@ use Rattle.rx_rules.specs.declared.tasks.Task.{Task}
 use Rattle.rx_rules.specs.declared.tasks.Scope.{Scope}
 use Rattle.rx_rules.specs.declared.entries.Entry.{Entry}
 use Rattle.rx_rules.specs.declared.entries.Act.TheVariants.{At as Calls, Spawn, Release}
-use Rattle.rx_rules.specs.Tree.{Tree, is_task, task_of, scope_of, opened_by, is_under, inner, quiet, death_of, the_root}
-use Rattle.rx_rules.specs.Entries.{waiting, resumed, born, without, AllowedAct, made_act}
-use Rattle.rx_rules.specs.Fold.{AllAllowed, opening, tree_of}
-use Rattle.rx_rules.specs.Reached.{Reached, opens}
 use Rattle.rx_rules.proofs.Lookups.{number-of}
 use Rattle.rx_sound.specs.Sound.{Sound, Each}
 use Rattle.rx_sound.proofs.Changes.{each_found}

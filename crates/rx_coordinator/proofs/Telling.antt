@@ -1,22 +1,14 @@
 -- What entries do to the rows of tasks.
-use Rattle.std.specs.Prelude.{◌≡◌, ◌≢◌, ℕ, ◌<◌, ◌==◌, Bool, true, false, cond, not, ◌&&◌, filter, map, List, ◌∷◌, ◌++◌, Option, Some, None, is_some, is_none, option_map, refl}
+use Rattle.std.proofs.Common.{◌≡◌, ◌≢◌, ℕ, ◌<◌, ◌==◌, Bool, true, false, cond, not, ◌&&◌, filter, map, List, ◌∷◌, ◌++◌, Option, Some, None, is_some, is_none, option_map, refl, ap, ◌∙◌, sym, subst, arith}
 use Rattle.std.specs.List.{find}
-use Rattle.std.proofs.Common.{ap, ◌∙◌, sym, subst, arith}
 use Rattle.std.proofs.lemmas.Bool.{eq-eqb, ne_eqb}
-use Rattle.rx_base.specs.declared.ids.TaskId.{TaskId}
-use Rattle.rx_base.specs.declared.ids.ScopeId.{ScopeId}
-use Rattle.rx_base.specs.declared.ids.PlaceId.{PlaceId}
-use Rattle.rx_base.specs.declared.place_set.PlaceSet.{PlaceSet}
-use Rattle.rx_base.specs.declared.values.Fault.{Fault}
+use Rattle.rx_rules.proofs.Common.{TaskId, ScopeId, PlaceId, PlaceSet, Fault, Tree, is_task, task_of, is_scope, opened_by, is_under, inner, own_scope, waiting, resumed, born, hit, is_hit, strike, without, widened, change_scope, AllowedAct, made_act, Reached}
 use Rattle.rx_base.proofs.SameIds.{task-is}
 use Rattle.rx_rules.specs.declared.tasks.Where.TheVariants.{At}
 use Rattle.rx_rules.specs.declared.tasks.Blow.{Blow}
 use Rattle.rx_rules.specs.declared.tasks.Task.{Task}
 use Rattle.rx_rules.specs.declared.entries.Act.{Act}
 use Rattle.rx_rules.specs.declared.entries.Act.TheVariants.{Open, At as Calls, Spawn, Arrive, Wait, Release, End, Print, Census}
-use Rattle.rx_rules.specs.Tree.{Tree, is_task, task_of, is_scope, opened_by, is_under, inner, own_scope}
-use Rattle.rx_rules.specs.Entries.{waiting, resumed, born, hit, is_hit, strike, without, widened, change_scope, AllowedAct, made_act}
-use Rattle.rx_rules.specs.Reached.{Reached}
 use Rattle.rx_rules.proofs.Lookups.{number-of}
 use Rattle.rx_sound.proofs.Reached.{sound}
 use Rattle.rx_sound.proofs.Reach.{task_below}

@@ -1,13 +1,11 @@
 -- The adopter of a scope.
-use Rattle.std.specs.Prelude.{◌≡◌, ℕ, true, ◌==◌, Option, Some, None, is_some, option_map, IfSome, refl}
+use Rattle.std.proofs.Common.{◌≡◌, ℕ, true, ◌==◌, Option, Some, None, is_some, option_map, IfSome, refl, sym, ap, ◌∙◌}
 use Rattle.std.specs.List.{find}
-use Rattle.std.proofs.Common.{sym, ap, ◌∙◌}
 use Rattle.std.proofs.lemmas.Bool.{eq-eqb, or_left, or_right}
 use Rattle.rx_sound.proofs.Parents.{based, parent_rooted}
-use Rattle.rx_base.specs.declared.ids.ScopeId.{ScopeId}
+use Rattle.rx_rules.proofs.Common.{ScopeId, Tree, chain_in, the_root, has_number}
 use Rattle.rx_rules.specs.declared.tasks.Scope.{Scope}
-use Rattle.rx_rules.specs.Tree.{Tree, chain_in, the_root}
-use Rattle.rx_rules.specs.Counts.{adopter, has_number}
+use Rattle.rx_rules.specs.Counts.{adopter}
 use Rattle.rx_sound.specs.Chains.{meets}
 use Rattle.rx_sound.specs.Sound.{Sound}
 use Rattle.rx_sound.proofs.Changes.{each_found}

@@ -1,18 +1,14 @@
 -- A task leaves a cell, and joins another.
-use Rattle.std.specs.Prelude.{◌≡◌, ℕ, ◌<◌, ◌≤◌, ◌^◌, ◌+◌, Bool, true, false, not, List, ◌∷◌, Option, Some, None, length, IfSome, Ok, refl}
+use Rattle.std.proofs.Common.{◌≡◌, ℕ, ◌<◌, ◌≤◌, ◌^◌, ◌+◌, Bool, true, false, not, List, ◌∷◌, Option, Some, None, length, IfSome, Ok, refl, sym, ap, ◌∙◌, subst, arith}
 use Rattle.std.specs.List.{find}
 use Rattle.std.specs.Global.{Box}
-use Rattle.std.proofs.Common.{sym, ap, ◌∙◌, subst, arith}
 use Rattle.std.proofs.lemmas.Bool.{eq-eqb}
-use Rattle.rx_base.specs.declared.ids.ScopeId.{ScopeId}
+use Rattle.rx_rules.proofs.Common.{ScopeId, Tree, is_task, change_first, made_act, acts, has_number}
 use Rattle.rx_rules.specs.declared.tasks.Where.{Where}
 use Rattle.rx_rules.specs.declared.tasks.Where.TheVariants.{At, Travel}
 use Rattle.rx_rules.specs.declared.tasks.Task.{Task}
 use Rattle.rx_rules.specs.declared.tasks.Scope.{Scope}
 use Rattle.rx_rules.specs.declared.entries.Act.TheVariants.{Arrive}
-use Rattle.rx_rules.specs.Tree.{Tree, is_task}
-use Rattle.rx_rules.specs.Entries.{change_first, made_act}
-use Rattle.rx_rules.specs.Reached.{acts}
 use Rattle.rx_sound.specs.Sound.{Sound, Inside}
 use Rattle.rx_sound.proofs.Reached.{sound}
 use Rattle.rx_sound.proofs.Stay.{fall_filter}
@@ -23,7 +19,6 @@ use Rattle.rx_finish.proofs.Allowed.{Free, arrive_allowed}
 use Rattle.rx_counts.specs.declared.record.Record.{Record}
 use Rattle.rx_counts.specs.declared.ledger.CountLedger.{CountLedger}
 use Rattle.rx_counts.specs.Keeping.{stands_home, keeper, is_number, kept_at}
-use Rattle.rx_rules.specs.Counts.{has_number}
 use Rattle.rx_counts.specs.Stands.{slot, HasCell, MayJoin, MayLeave, RecordOf, Both, RecordsFit, StandsFor, record_at, count_in, more, less, in_sums, Changed}
 use Rattle.rx_counts.proofs.Asking.{Kept, kept_at_keeper, place_in, wide, room_kept, as_wide, small, tasks_length, unstruck_of}
 use Rattle.rx_counts.proofs.Joining.{all_same, all_leave, all_join, counted, sums_same, count_out, count_back, others}

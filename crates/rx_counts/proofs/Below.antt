@@ -1,15 +1,12 @@
 -- A quiet scope is seen from its own counts.
-use Rattle.std.specs.Prelude.{◌≡◌, ℕ, zero, suc, ◌<◌, ◌≤◌, Bool, true, false, cond, ◌||◌, ◌&&◌, ◌==◌, not, List, [], ◌∷◌, Option, Some, None, refl, ◌⊎◌}
+use Rattle.std.proofs.Common.{◌≡◌, ℕ, zero, suc, ◌<◌, ◌≤◌, Bool, true, false, cond, ◌||◌, ◌&&◌, ◌==◌, not, List, [], ◌∷◌, Option, Some, None, refl, ◌⊎◌, sym, ap, ◌∙◌, subst, arith, inl, inr, ⊎_elim}
 use Rattle.std.specs.List.{find, list_any}
-use Rattle.std.proofs.Common.{sym, ap, ◌∙◌, subst, arith, inl, inr, ⊎_elim}
 use Rattle.std.proofs.lemmas.Bool.{eqb-true, eq-eqb, ne_eqb, true≢false, or_right, or_parts, true_from_ne_false}
 use Rattle.std.proofs.Math.Bool.{and-false}
-use Rattle.rx_base.specs.declared.ids.TaskId.{TaskId}
-use Rattle.rx_base.specs.declared.ids.ScopeId.{ScopeId}
+use Rattle.rx_rules.proofs.Common.{TaskId, ScopeId, is_task, is_scope, wants, opened_by}
 use Rattle.rx_rules.specs.declared.tasks.Where.TheVariants.{At}
 use Rattle.rx_rules.specs.declared.tasks.Task.{Task}
 use Rattle.rx_rules.specs.declared.tasks.Scope.{Scope}
-use Rattle.rx_rules.specs.Tree.{is_task, is_scope, wants, opened_by}
 use Rattle.rx_sound.specs.Chains.{meets, Falls, HasOpener, Opened}
 use Rattle.rx_sound.proofs.Chains.{met_below, met_start, meets_skips}
 use Rattle.rx_counts.specs.Keeping.{keeper, is_number}

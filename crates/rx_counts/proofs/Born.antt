@@ -1,11 +1,9 @@
 -- Scopes that are opened, and tasks that are born.
-use Rattle.std.specs.Prelude.{◌≡◌, ℕ, ◌<◌, ◌+◌, Bool, true, false, List, [], ◌∷◌, Option, Some, None, is_none, option_map, slice_index_or, IfSome, Ok, length, refl}
+use Rattle.std.proofs.Common.{◌≡◌, ℕ, ◌<◌, ◌+◌, Bool, true, false, List, [], ◌∷◌, Option, Some, None, is_none, option_map, slice_index_or, IfSome, Ok, length, refl, sym, ap, ◌∙◌, subst, arith}
 use Rattle.std.specs.List.{find}
-use Rattle.std.proofs.Common.{sym, ap, ◌∙◌, subst, arith}
 use Rattle.std.proofs.lemmas.Bool.{eq-eqb}
 use Rattle.rx_sound.proofs.Parents.{met_found}
-use Rattle.rx_base.specs.declared.ids.PlaceId.{PlaceId}
-use Rattle.rx_base.specs.declared.ids.ScopeId.{ScopeId}
+use Rattle.rx_rules.proofs.Common.{PlaceId, ScopeId, Tree, the_root, governing_in, chain_in, place_number, home_for, made_act, acts, has_number}
 use Rattle.rx_base.proofs.SameIds.{scope-is}
 use Rattle.rx_rules.specs.declared.tasks.Kind.TheVariants.{Finish}
 use Rattle.rx_rules.specs.declared.tasks.Where.{Where}
@@ -13,9 +11,6 @@ use Rattle.rx_rules.specs.declared.tasks.Where.TheVariants.{At}
 use Rattle.rx_rules.specs.declared.tasks.Task.{Task}
 use Rattle.rx_rules.specs.declared.tasks.Scope.{Scope}
 use Rattle.rx_rules.specs.declared.entries.Act.TheVariants.{Open}
-use Rattle.rx_rules.specs.Tree.{Tree, the_root, governing_in, chain_in}
-use Rattle.rx_rules.specs.Entries.{place_number, home_for, made_act}
-use Rattle.rx_rules.specs.Reached.{acts}
 use Rattle.rx_sound.specs.Blows.{death_blow, blow_at}
 use Rattle.rx_sound.specs.Chains.{meets, Falls}
 use Rattle.rx_sound.specs.Sound.{Sound, TaskFits, Each}
@@ -30,7 +25,6 @@ use Rattle.rx_finish.proofs.Allowed.{Free, open_allowed}
 use Rattle.rx_counts.specs.declared.record.Record.{Record}
 use Rattle.rx_counts.specs.declared.ledger.CountLedger.{CountLedger}
 use Rattle.rx_counts.specs.Keeping.{stands_home, keeper, finishes}
-use Rattle.rx_rules.specs.Counts.{has_number}
 use Rattle.rx_counts.specs.Stands.{SumsOf, RecordOf, StandsFor, record_at, Pushed}
 use Rattle.rx_counts.proofs.Telling.{none_blow}
 use Rattle.rx_counts.proofs.Asking.{Kept, kept_some, unstruck_of, room_kept, as_wide}

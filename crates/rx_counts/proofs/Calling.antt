@@ -1,20 +1,13 @@
 -- An `at` is opened: a scope with its callee.
-use Rattle.std.specs.Prelude.{◌≡◌, ℕ, ◌<◌, ◌≤◌, ◌^◌, ◌+◌, Bool, true, false, ◌||◌, ◌==◌, not, List, [], ◌∷◌, Some, None, is_none, is_some, length, slice_index_or, Ok, refl}
-use Rattle.std.proofs.Common.{sym, ap, ◌∙◌, subst, arith}
+use Rattle.std.proofs.Common.{◌≡◌, ℕ, ◌<◌, ◌≤◌, ◌^◌, ◌+◌, Bool, true, false, ◌||◌, ◌==◌, not, List, [], ◌∷◌, Some, None, is_none, is_some, length, slice_index_or, Ok, refl, sym, ap, ◌∙◌, subst, arith}
 use Rattle.std.proofs.lemmas.Bool.{eq-eqb, ne_eqb}
 use Rattle.std.proofs.lemmas.List.{length-replicate}
-use Rattle.rx_base.specs.Sets.{has_bit}
-use Rattle.rx_base.specs.declared.ids.PlaceId.{PlaceId}
-use Rattle.rx_base.specs.declared.ids.TaskId.{TaskId}
-use Rattle.rx_base.specs.declared.ids.ScopeId.{ScopeId}
+use Rattle.rx_rules.proofs.Common.{has_bit, PlaceId, TaskId, ScopeId, Tree, is_task, death_of, place_number, home_for, born, change_first, waiting, made_act, acts}
 use Rattle.rx_rules.specs.declared.tasks.Kind.TheVariants.{Call}
 use Rattle.rx_rules.specs.declared.tasks.Where.{Where}
 use Rattle.rx_rules.specs.declared.tasks.Task.{Task}
 use Rattle.rx_rules.specs.declared.tasks.Scope.{Scope}
 use Rattle.rx_rules.specs.declared.entries.Act.TheVariants.{At as Calls}
-use Rattle.rx_rules.specs.Tree.{Tree, is_task, death_of}
-use Rattle.rx_rules.specs.Entries.{place_number, home_for, born, change_first, waiting, made_act}
-use Rattle.rx_rules.specs.Reached.{acts}
 use Rattle.rx_sound.specs.Blows.{death_blow, blow_at}
 use Rattle.rx_sound.specs.Chains.{Falls}
 use Rattle.rx_sound.specs.Sound.{Sound, Each, Inside}

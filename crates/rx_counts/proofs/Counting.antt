@@ -1,10 +1,9 @@
 -- Counting the elements that pass a test, and sums over them.
-use Rattle.std.specs.Prelude.{◌≡◌, ℕ, ◌≤◌, ◌+◌, Bool, true, false, cond, ◌||◌, List, [], ◌∷◌, Some, filter, map, count_by, sum_by, refl}
+use Rattle.std.proofs.Common.{◌≡◌, ℕ, ◌≤◌, ◌+◌, Bool, true, false, cond, ◌||◌, List, [], ◌∷◌, Some, filter, map, count_by, sum_by, refl, ap, ◌∙◌, sym, arith, ltb}
 use Rattle.std.specs.List.{find, list_any}
-use Rattle.std.proofs.Common.{ap, ◌∙◌, sym, arith, ltb}
 use Rattle.std.proofs.lemmas.Bool.{lt-ltb}
 use Rattle.std.proofs.lemmas.List.Sums.{sum_by-cons}
-use Rattle.rx_rules.specs.Entries.{change_first}
+use Rattle.rx_rules.proofs.Common.{change_first}
 use Rattle.rx_sound.specs.Sound.{Each}
 
 -- one or none

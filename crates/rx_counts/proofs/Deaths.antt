@@ -1,19 +1,15 @@
 -- The death of a place.
-use Rattle.std.specs.Prelude.{◌≡◌, ℕ, ◌<◌, ◌^◌, Bool, true, false, ◌&&◌, ◌==◌, not, List, [], ◌∷◌, Option, Some, None, is_none, slice_index_or, slice_set, length, map, suc, IfSome, refl}
+use Rattle.std.proofs.Common.{◌≡◌, ℕ, ◌<◌, ◌^◌, Bool, true, false, ◌&&◌, ◌==◌, not, List, [], ◌∷◌, Option, Some, None, is_none, slice_index_or, slice_set, length, map, suc, IfSome, refl, sym, ap, ◌∙◌, subst, arith}
 use Rattle.std.specs.List.{list_any}
 use Rattle.std.specs.Global.{Box}
-use Rattle.std.proofs.Common.{sym, ap, ◌∙◌, subst, arith}
 use Rattle.std.proofs.lemmas.Bool.{eqb-true, eqb-false, lt-ltb, le-ltb}
 use Rattle.std.proofs.lemmas.List.{get_or-set_same, get_or-set_other}
 use Rattle.std.proofs.Math.Bool.{and-false, and-true}
 use Rattle.rx_sound.proofs.Parents.{based}
-use Rattle.rx_base.specs.declared.ids.PlaceId.{PlaceId}
+use Rattle.rx_rules.proofs.Common.{PlaceId, Tree, is_scope, the_root, hit, strike, Reached, dies as place_dies, has_number}
 use Rattle.rx_rules.specs.declared.tasks.Blow.{Blow}
 use Rattle.rx_rules.specs.declared.tasks.Task.{Task}
 use Rattle.rx_rules.specs.declared.tasks.Scope.{Scope}
-use Rattle.rx_rules.specs.Tree.{Tree, is_scope, the_root}
-use Rattle.rx_rules.specs.Entries.{hit, strike}
-use Rattle.rx_rules.specs.Reached.{Reached, dies as place_dies}
 use Rattle.rx_sound.specs.Sound.{Each, Sound}
 use Rattle.rx_sound.proofs.Changes.{each_found}
 use Rattle.rx_sound.proofs.Releasing.{each_below}
@@ -22,7 +18,6 @@ use Rattle.rx_finish.specs.Callers.{MayStrike}
 use Rattle.rx_counts.specs.declared.record.Record.{Record}
 use Rattle.rx_counts.specs.declared.ledger.CountLedger.{CountLedger}
 use Rattle.rx_counts.specs.Keeping.{stands_home}
-use Rattle.rx_rules.specs.Counts.{has_number}
 use Rattle.rx_counts.specs.Stands.{RecordsFit, StandsFor, Pairs, record_at}
 use Rattle.rx_counts.specs.Inside.Dying.{StrikesRecord, MayHit, Passing, given_until}
 use Rattle.rx_counts.proofs.Striking.{all_strike, may_hit}

@@ -1,18 +1,13 @@
 -- A task ends.
-use Rattle.std.specs.Prelude.{◌≡◌, ℕ, ◌≤◌, Bool, true, cond, ◌==◌, List, ◌∷◌, ◌++◌, length, Option, Some, None, option_map, Ok, IfSome, refl}
+use Rattle.std.proofs.Common.{◌≡◌, ℕ, ◌≤◌, Bool, true, cond, ◌==◌, List, ◌∷◌, ◌++◌, length, Option, Some, None, option_map, Ok, IfSome, refl, sym, ap, ◌∙◌, subst, ⊎_elim}
 use Rattle.std.specs.List.{find}
 use Rattle.std.specs.Global.{Box}
-use Rattle.std.proofs.Common.{sym, ap, ◌∙◌, subst, ⊎_elim}
 use Rattle.std.proofs.lemmas.Bool.{eq-eqb, cases_eq}
-use Rattle.rx_base.specs.declared.values.Fault.{Fault}
-use Rattle.rx_base.specs.declared.ids.ScopeId.{ScopeId}
+use Rattle.rx_rules.proofs.Common.{Fault, ScopeId, Tree, is_scope, change_first, made_act, acts, has_number}
 use Rattle.rx_rules.specs.declared.tasks.Where.{Where}
 use Rattle.rx_rules.specs.declared.tasks.Scope.{Scope}
 use Rattle.rx_rules.specs.declared.tasks.Task.{Task}
 use Rattle.rx_rules.specs.declared.entries.Act.TheVariants.{End}
-use Rattle.rx_rules.specs.Tree.{Tree, is_scope}
-use Rattle.rx_rules.specs.Entries.{change_first, made_act}
-use Rattle.rx_rules.specs.Reached.{acts}
 use Rattle.rx_sound.specs.Sound.{Sound}
 use Rattle.rx_sound.proofs.Reached.{sound}
 use Rattle.rx_sound.proofs.Stay.{faulted}
@@ -25,7 +20,6 @@ use Rattle.rx_counts.specs.declared.record.Sums.{Sums}
 use Rattle.rx_counts.specs.declared.record.Record.{Record}
 use Rattle.rx_counts.specs.declared.ledger.CountLedger.{CountLedger}
 use Rattle.rx_counts.specs.Keeping.{stands_home, keeper}
-use Rattle.rx_rules.specs.Counts.{has_number}
 use Rattle.rx_counts.specs.Stands.{MayLeave, in_sums, less, masking, RecordsFit, Fit, StandsFor, record_at, Changed, ends_if}
 use Rattle.rx_counts.proofs.Asking.{unstruck_of, same_fit, scope_kept, room_kept, as_wide}
 use Rattle.rx_counts.specs.Inside.Totalling.{ends}

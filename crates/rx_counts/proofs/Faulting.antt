@@ -1,22 +1,17 @@
 -- The faults of one scope change.
-use Rattle.std.specs.Prelude.{◌≡◌, ℕ, Bool, true, false, cond, ◌&&◌, ◌==◌, not, List, [], ◌∷◌, Option, Some, None, is_none, option_map, refl}
+use Rattle.std.proofs.Common.{◌≡◌, ℕ, Bool, true, false, cond, ◌&&◌, ◌==◌, not, List, [], ◌∷◌, Option, Some, None, is_none, option_map, refl, sym, ap, ◌∙◌, subst, ⊎_elim}
 use Rattle.std.specs.List.{find}
 use Rattle.std.specs.Global.{Box}
-use Rattle.std.proofs.Common.{sym, ap, ◌∙◌, subst, ⊎_elim}
 use Rattle.std.proofs.lemmas.Bool.{eqb-true, ne_eqb, cases_eq}
 use Rattle.rx_sound.proofs.Releasing.{each_all}
 use Rattle.rx_sound.proofs.Staying.{any_same}
-use Rattle.rx_base.specs.declared.values.Fault.{Fault}
-use Rattle.rx_base.specs.declared.ids.ScopeId.{ScopeId}
+use Rattle.rx_rules.proofs.Common.{Fault, ScopeId, is_scope, change_first, was_lost_at, has_number}
 use Rattle.rx_rules.specs.declared.tasks.Task.{Task}
 use Rattle.rx_rules.specs.declared.tasks.Scope.{Scope}
-use Rattle.rx_rules.specs.Tree.{is_scope}
-use Rattle.rx_rules.specs.Entries.{change_first, was_lost_at}
 use Rattle.rx_sound.proofs.Stay.{faulted}
 use Rattle.rx_counts.specs.declared.record.Sums.{Sums}
 use Rattle.rx_counts.specs.declared.record.Record.{Record}
 use Rattle.rx_counts.specs.Keeping.{keeper, finishes, is_number, kept_at, same_where, is_orphan, held}
-use Rattle.rx_rules.specs.Counts.{has_number}
 use Rattle.rx_counts.specs.Stands.{ShapeOf, SumsOf, RecordOf, Both, RecordsFit, record_at, Changed}
 use Rattle.rx_counts.proofs.Counting.{count_same, sum_same, sum_change}
 use Rattle.rx_counts.proofs.Walks.{keeper_faulted}

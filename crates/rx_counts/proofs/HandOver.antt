@@ -1,15 +1,12 @@
 -- One scope gives its counts away.
-use Rattle.std.specs.Prelude.{◌≡◌, ℕ, ◌<◌, ◌+◌, Bool, true, false, cond, ◌&&◌, ◌==◌, not, List, [], ◌∷◌, Option, Some, None, count_by, refl}
+use Rattle.std.proofs.Common.{◌≡◌, ℕ, ◌<◌, ◌+◌, Bool, true, false, cond, ◌&&◌, ◌==◌, not, List, [], ◌∷◌, Option, Some, None, count_by, refl, sym, ap, ◌∙◌, subst, arith}
 use Rattle.std.specs.List.{find}
-use Rattle.std.proofs.Common.{sym, ap, ◌∙◌, subst, arith}
 use Rattle.std.proofs.lemmas.Bool.{eqb-true, eq-eqb, ne_eqb, true≢false}
-use Rattle.rx_rules.specs.Counts.{has_number}
+use Rattle.rx_rules.proofs.Common.{has_number, ScopeId, is_scope, wants}
 use Rattle.std.proofs.Math.Bool.{and-false, and-true}
 use Rattle.rx_sound.proofs.Releasing.{each_all}
-use Rattle.rx_base.specs.declared.ids.ScopeId.{ScopeId}
 use Rattle.rx_rules.specs.declared.tasks.Task.{Task}
 use Rattle.rx_rules.specs.declared.tasks.Scope.{Scope}
-use Rattle.rx_rules.specs.Tree.{is_scope, wants}
 use Rattle.rx_sound.specs.Chains.{Falls}
 use Rattle.rx_counts.specs.Keeping.{keeper, is_number, kept_at}
 use Rattle.rx_sound.specs.Sound.{Each}

@@ -1,18 +1,14 @@
 -- What a death does to the sums of scopes: the hand-over.
-use Rattle.std.specs.Prelude.{◌≡◌, ℕ, zero, suc, ◌<◌, ◌+◌, Bool, true, false, cond, ◌||◌, ◌&&◌, not, ltb, List, [], ◌∷◌, ◌++◌, Option, Some, None, is_none, count_by, sum_by, length, IfSome, refl}
+use Rattle.std.proofs.Common.{◌≡◌, ℕ, zero, suc, ◌<◌, ◌+◌, Bool, true, false, cond, ◌||◌, ◌&&◌, not, ltb, List, [], ◌∷◌, ◌++◌, Option, Some, None, is_none, count_by, sum_by, length, IfSome, refl, sym, ap, ◌∙◌, subst, arith, ⊎_elim}
 use Rattle.std.specs.List.{find}
 use Rattle.std.specs.Global.{Box}
-use Rattle.std.proofs.Common.{sym, ap, ◌∙◌, subst, arith, ⊎_elim}
 use Rattle.std.proofs.lemmas.Bool.{eqb-true, eq-eqb, ne_eqb, true≢false, and_parts, and_right, or_left, lt-ltb, cases_eq}
 use Rattle.std.proofs.lemmas.List.Sums.{sum_by-cons}
 use Rattle.std.proofs.Math.Bool.{and-false, and-true}
 use Rattle.rx_sound.proofs.Staying.{any_same}
-use Rattle.rx_base.specs.Sets.{has_bit}
-use Rattle.rx_base.specs.declared.ids.ScopeId.{ScopeId}
+use Rattle.rx_rules.proofs.Common.{has_bit, ScopeId, is_scope, was_lost_at, has_number}
 use Rattle.rx_rules.specs.declared.tasks.Task.{Task}
 use Rattle.rx_rules.specs.declared.tasks.Scope.{Scope}
-use Rattle.rx_rules.specs.Tree.{is_scope}
-use Rattle.rx_rules.specs.Entries.{was_lost_at}
 use Rattle.rx_sound.specs.Chains.{Falls}
 use Rattle.rx_sound.specs.Sound.{Each}
 use Rattle.rx_sound.proofs.Changes.{each_more}
@@ -20,7 +16,6 @@ use Rattle.rx_sound.proofs.Releasing.{each_below, each_all, each_numbered}
 use Rattle.rx_counts.specs.declared.record.Sums.{Sums}
 use Rattle.rx_counts.specs.declared.record.Record.{Record}
 use Rattle.rx_counts.specs.Keeping.{keeper, is_number, kept_at, same_where, is_orphan, held, orphans_of}
-use Rattle.rx_rules.specs.Counts.{has_number}
 use Rattle.rx_counts.specs.Stands.{table_size, ShapeOf, SumsOf, RecordOf, Both, RecordsFit, Pairs, ChangedBy, record_at, in_sums}
 use Rattle.rx_counts.specs.Inside.Dying.{Gains, IsNothing, Emptied, Gained, given_by}
 use Rattle.rx_counts.proofs.Counting.{one, count_same, any_counted, sum_same, sum_none}

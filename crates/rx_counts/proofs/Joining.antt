@@ -1,27 +1,22 @@
 -- A task joins the tree, or leaves it, and the sums of one record change.
-use Rattle.std.specs.Prelude.{◌≡◌, ℕ, ◌<◌, ◌≤◌, ◌+◌, ◌-◌, Bool, true, false, cond, ◌||◌, ◌&&◌, ◌==◌, not, List, [], ◌∷◌, Option, Some, None, IfSome, is_none, option_map, length, slice_index_or, slice_set, filter, count_by, refl}
+use Rattle.std.proofs.Common.{◌≡◌, ℕ, ◌<◌, ◌≤◌, ◌+◌, ◌-◌, Bool, true, false, cond, ◌||◌, ◌&&◌, ◌==◌, not, List, [], ◌∷◌, Option, Some, None, IfSome, is_none, option_map, length, slice_index_or, slice_set, filter, count_by, refl, sym, ap, ◌∙◌, subst, arith, ltb, ⊎_elim}
 use Rattle.std.specs.List.{find, list_any}
 use Rattle.std.specs.Global.{Box}
-use Rattle.std.proofs.Common.{sym, ap, ◌∙◌, subst, arith, ltb, ⊎_elim}
 use Rattle.std.proofs.lemmas.Bool.{eqb-true, eq-eqb, ne_eqb, true≢false, and_left, and_right, cases_eq}
 use Rattle.std.proofs.lemmas.List.{get_or-set_same, get_or-set_other, length-set}
 use Rattle.std.proofs.Math.Bool.{and-true}
 use Rattle.rx_sound.proofs.Waiting.{tasks_below}
-use Rattle.rx_base.specs.declared.ids.TaskId.{TaskId}
+use Rattle.rx_rules.proofs.Common.{TaskId, is_task, change_first, was_lost_at, has_bit, has_number}
 use Rattle.rx_rules.specs.declared.tasks.Where.{Where}
 use Rattle.rx_rules.specs.declared.tasks.Blow.{Blow}
 use Rattle.rx_rules.specs.declared.tasks.Task.{Task}
 use Rattle.rx_rules.specs.declared.tasks.Scope.{Scope}
-use Rattle.rx_rules.specs.Tree.{is_task}
-use Rattle.rx_rules.specs.Entries.{change_first, was_lost_at}
 use Rattle.rx_sound.specs.Sound.{TasksFall}
 use Rattle.rx_sound.proofs.Changes.{each_more}
 use Rattle.rx_counts.specs.declared.record.Sums.{Sums}
 use Rattle.rx_counts.specs.declared.record.Record.{Record}
 use Rattle.rx_counts.specs.Keeping.{keeper, is_number, kept_at, same_where}
-use Rattle.rx_base.specs.Sets.{has_bit}
 use Rattle.rx_base.proofs.Elements.{find-passes}
-use Rattle.rx_rules.specs.Counts.{has_number}
 use Rattle.rx_counts.specs.Stands.{table_size, is_inside, slot, HasCell, MayLeave, ShapeOf, SumsOf, RecordOf, Both, RecordsFit, record_at, count_in, more, less, masking, in_sums, with_lost, Changed, ChangedBy, Pairs, Loses}
 use Rattle.rx_counts.proofs.Counting.{one, count_cons, count_change, count_filter, any_counted, sum_change}
 use Rattle.rx_counts.proofs.Telling.{same_self}

@@ -1,10 +1,6 @@
 -- A place joins.
-use Rattle.std.specs.Prelude.{◌≡◌, ℕ, suc, ◌+◌, length, refl}
-use Rattle.std.proofs.Common.{ap, arith}
-use Rattle.rx_base.specs.declared.ids.PlaceId.{PlaceId}
-use Rattle.rx_rules.specs.Tree.{Tree}
-use Rattle.rx_rules.specs.Entries.{widened}
-use Rattle.rx_rules.specs.Reached.{joins}
+use Rattle.std.proofs.Common.{◌≡◌, ℕ, suc, ◌+◌, length, refl, ap, arith}
+use Rattle.rx_rules.proofs.Common.{PlaceId, Tree, widened, joins}
 use Rattle.rx_finish.specs.Callers.{MayJoin}
 use Rattle.rx_counts.specs.declared.ledger.CountLedger.{CountLedger}
 use Rattle.rx_counts.specs.Stands.{StandsFor, record_at}

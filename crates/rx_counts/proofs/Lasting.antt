@@ -1,19 +1,16 @@
 -- A scope that may be released: its home lives, and its opener has no later scope. Its counts alone tell whether it is quiet.
-use Rattle.std.specs.Prelude.{◌≡◌, ℕ, ◌<◌, ◌≤◌, Bool, true, false, ◌&&◌, ◌==◌, not, List, [], ◌∷◌, Option, Some, None, is_none, slice_index_or, refl}
+use Rattle.std.proofs.Common.{◌≡◌, ℕ, ◌<◌, ◌≤◌, Bool, true, false, ◌&&◌, ◌==◌, not, List, [], ◌∷◌, Option, Some, None, is_none, slice_index_or, refl, sym, ap, ◌∙◌, subst, arith}
 use Rattle.std.specs.List.{find, list_any}
-use Rattle.std.proofs.Common.{sym, ap, ◌∙◌, subst, arith}
 use Rattle.std.proofs.lemmas.Bool.{eqb-true, eq-eqb, ne_eqb, true≢false, or_from, or_parts, and_from, and_left, and_right, not-true}
 use Rattle.std.proofs.Math.Bool.{and-true}
 use Rattle.rx_sound.proofs.Opening.{own_place}
 use Rattle.rx_sound.proofs.Waiting.{each_stands}
 use Rattle.rx_sound.proofs.Enabling.{any_none}
-use Rattle.rx_base.specs.declared.ids.TaskId.{TaskId}
-use Rattle.rx_base.specs.declared.ids.ScopeId.{ScopeId}
+use Rattle.rx_rules.proofs.Common.{TaskId, ScopeId, Tree, is_task, task_of, is_scope, opened_by, own_scope, is_under, quiet, the_root}
 use Rattle.rx_base.proofs.Elements.{find-passes}
 use Rattle.rx_rules.specs.declared.tasks.Where.TheVariants.{At}
 use Rattle.rx_rules.specs.declared.tasks.Task.{Task}
 use Rattle.rx_rules.specs.declared.tasks.Scope.{Scope}
-use Rattle.rx_rules.specs.Tree.{Tree, is_task, task_of, is_scope, opened_by, own_scope, is_under, quiet, the_root}
 use Rattle.rx_finish.specs.Callers.{HasRoot}
 use Rattle.rx_sound.specs.Blows.{blow_at}
 use Rattle.rx_sound.specs.Chains.{meets, HasOpener, Opened}

@@ -1,20 +1,15 @@
 -- The masked numbers of the records.
-use Rattle.std.specs.Prelude.{◌≡◌, ℕ, min, ◌+◌, Bool, true, false, cond, ◌&&◌, ◌==◌, not, List, [], ◌∷◌, ◌++◌, Option, Some, None, IfSome, option_map, length, sum_by, refl}
+use Rattle.std.proofs.Common.{◌≡◌, ℕ, min, ◌+◌, Bool, true, false, cond, ◌&&◌, ◌==◌, not, List, [], ◌∷◌, ◌++◌, Option, Some, None, IfSome, option_map, length, sum_by, refl, sym, ap, ◌∙◌, subst, arith, ⊎_elim}
 use Rattle.std.specs.List.{find}
 use Rattle.std.specs.Global.{Box}
-use Rattle.std.proofs.Common.{sym, ap, ◌∙◌, subst, arith, ⊎_elim}
 use Rattle.std.proofs.lemmas.Bool.{eqb-true, eq-eqb, ne_eqb, true≢false, and_left, and_right, cases_eq}
 use Rattle.std.proofs.lemmas.List.{length-append}
 use Rattle.std.proofs.lemmas.List.Sums.{sum_by-cons}
-use Rattle.rx_base.specs.declared.values.Fault.{Fault}
-use Rattle.rx_base.specs.declared.ids.ScopeId.{ScopeId}
+use Rattle.rx_rules.proofs.Common.{Fault, ScopeId, Tree, is_scope, quiet, change_first, without, has_number}
 use Rattle.rx_base.proofs.SameIds.{scope-is}
 use Rattle.rx_base.proofs.Elements.{find-passes}
 use Rattle.rx_rules.specs.declared.tasks.Task.{Task}
 use Rattle.rx_rules.specs.declared.tasks.Scope.{Scope}
-use Rattle.rx_rules.specs.Tree.{Tree, is_scope, quiet}
-use Rattle.rx_rules.specs.Entries.{change_first, without}
-use Rattle.rx_rules.specs.Counts.{has_number}
 use Rattle.rx_sound.specs.Chains.{meets, Falls, Opened}
 use Rattle.rx_sound.specs.Sound.{Sound, Each}
 use Rattle.rx_sound.proofs.Changes.{each_more}

@@ -1,15 +1,9 @@
 -- Worked runs: the numbers that the tree gives, and the conditions of the calls.
-use Rattle.std.specs.Prelude.{◌≡◌, ℕ, ◌<◌, ◌+◌, false, List, [], Some, None, Result, Ok, Err, OnOk, is_ok, replicate, refl}
-use Rattle.std.proofs.Common.{◌∙◌, subst, lit<, lit≤, arith}
+use Rattle.std.proofs.Common.{◌≡◌, ℕ, ◌<◌, ◌+◌, false, List, [], Some, None, Result, Ok, Err, OnOk, is_ok, replicate, refl, ◌∙◌, subst, lit<, lit≤, arith}
 use Rattle.std.proofs.lemmas.List.Elements.{All-set}
-use Rattle.rx_base.specs.declared.ids.ScopeId.{ScopeId}
-use Rattle.rx_base.specs.declared.values.Fault.{Fault}
+use Rattle.rx_rules.proofs.Common.{ScopeId, Fault, Tree, governs, made_act, strike, widened, opening, IsOlder}
 use Rattle.rx_rules.specs.declared.tasks.Where.TheVariants.{At, Travel}
 use Rattle.rx_rules.specs.declared.entries.Act.TheVariants.{Open, At as Calls, Spawn, Arrive, End}
-use Rattle.rx_rules.specs.Tree.{Tree, governs}
-use Rattle.rx_rules.specs.Entries.{made_act, strike, widened}
-use Rattle.rx_rules.specs.Fold.{opening}
-use Rattle.rx_rules.specs.Reached.{IsOlder}
 use Rattle.rx_finish.specs.declared.ledger.Caller.{Caller}
 use Rattle.rx_finish.specs.declared.ledger.LedgerFault.{LedgerFault}
 use Rattle.rx_finish.specs.declared.ledger.LedgerFault.TheVariants.{NotYet, Lost, NoMemory}

@@ -1,8 +1,7 @@
 -- A new scope has a record of zeros, and the other records stay.
-use Rattle.std.specs.Prelude.{◌≡◌, ℕ, ◌<◌, ◌≤◌, Bool, true, false, cond, ◌&&◌, ◌==◌, not, List, ◌∷◌, Option, Some, is_none, slice_index_or, length, replicate, sum_by}
+use Rattle.std.proofs.Common.{◌≡◌, ℕ, ◌<◌, ◌≤◌, Bool, true, false, cond, ◌&&◌, ◌==◌, not, List, ◌∷◌, Option, Some, is_none, slice_index_or, length, replicate, sum_by, sym, ap, ◌∙◌, subst, arith, ⊎_elim}
 use Rattle.std.specs.List.{find}
 use Rattle.std.specs.Global.{Box}
-use Rattle.std.proofs.Common.{sym, ap, ◌∙◌, subst, arith, ⊎_elim}
 use Rattle.std.proofs.lemmas.Bool.{eq-eqb, ne_eqb, and_left, and_right, cases_eq, cases_lt, false_from_ne_true}
 use Rattle.std.proofs.lemmas.List.{get_or-replicate, get_or_past, length-replicate}
 use Rattle.std.proofs.lemmas.List.Sums.{sum_by-cons}
@@ -10,11 +9,10 @@ use Rattle.rx_base.proofs.Bits.{no_bit}
 use Rattle.rx_sound.proofs.Staying.{any_same}
 use Rattle.rx_sound.proofs.Below.{found_low}
 use Rattle.rx_sound.proofs.Enabling.{any_none}
-use Rattle.rx_base.specs.declared.ids.ScopeId.{ScopeId}
+use Rattle.rx_rules.proofs.Common.{ScopeId, was_lost_at, has_number}
 use Rattle.rx_rules.specs.declared.tasks.Where.{Where}
 use Rattle.rx_rules.specs.declared.tasks.Task.{Task}
 use Rattle.rx_rules.specs.declared.tasks.Scope.{Scope}
-use Rattle.rx_rules.specs.Entries.{was_lost_at}
 use Rattle.rx_sound.specs.Chains.{Falls}
 use Rattle.rx_sound.specs.Sound.{Each}
 use Rattle.rx_sound.proofs.Changes.{each_more}
@@ -22,7 +20,6 @@ use Rattle.rx_sound.proofs.Releasing.{each_below}
 use Rattle.rx_counts.specs.declared.record.Sums.{Sums}
 use Rattle.rx_counts.specs.declared.record.Record.{Record}
 use Rattle.rx_counts.specs.Keeping.{keeper, finishes, is_number, kept_at, same_where, is_orphan, held}
-use Rattle.rx_rules.specs.Counts.{has_number}
 use Rattle.rx_counts.specs.Stands.{table_size, slot, count_in, ShapeOf, SumsOf, RecordOf, Both, RecordsFit, record_at, Pushed}
 use Rattle.rx_counts.proofs.Counting.{count_same, count_none, sum_same, sum_none}
 use Rattle.rx_counts.proofs.HandOver.{keeper_older}

@@ -1,11 +1,9 @@
 -- A release by a caller, and by the host.
-use Rattle.std.specs.Prelude.{ℕ, false, length, Ok, Err, Result, refl}
-use Rattle.std.proofs.Common.{◌∙◌}
+use Rattle.std.proofs.Common.{ℕ, false, length, Ok, Err, Result, refl, ◌∙◌}
 use Rattle.rx_rules.specs.declared.entries.Act.TheVariants.{Release}
-use Rattle.rx_rules.specs.Tree.{Tree, is_task, the_root}
-use Rattle.rx_rules.specs.Entries.{without, made_act, Allowed}
+use Rattle.rx_rules.proofs.Common.{Tree, is_task, the_root, without, made_act, Allowed, acts}
 use Rattle.rx_rules.specs.declared.entries.Entry.TheVariants.{Root}
-use Rattle.rx_rules.specs.Reached.{acts, ends}
+use Rattle.rx_rules.specs.Reached.{ends}
 use Rattle.rx_finish.specs.declared.ledger.Caller.{Caller}
 use Rattle.rx_finish.specs.declared.ledger.Outcome.{Outcome}
 use Rattle.rx_finish.specs.declared.ledger.LedgerFault.{LedgerFault}

@@ -1,7 +1,6 @@
 -- The same of the pages as they are kept.
-use Rattle.std.specs.Prelude.{◌≡◌, ℕ, ◌+◌, ◌<◌, ◌≤◌, ◌/◌, ◌%◌, List, [], ◌∷◌, ◌++◌, Bool, true, false, cond, length, Option, Some, None, IsSome, Result, Ok, Err, OnErr, option_map, box_value, refl, slice_index_or, slice_set}
+use Rattle.std.proofs.Common.{◌≡◌, ℕ, ◌+◌, ◌<◌, ◌≤◌, ◌/◌, ◌%◌, List, [], ◌∷◌, ◌++◌, Bool, true, false, cond, length, Option, Some, None, IsSome, Result, Ok, Err, OnErr, option_map, box_value, refl, slice_index_or, slice_set, sym, ap, subst, ◌∙◌, arith}
 use Rattle.std.specs.Global.{Vec, Box}
-use Rattle.std.proofs.Common.{sym, ap, subst, ◌∙◌, arith}
 use Rattle.std.proofs.lemmas.List.{get_or_past, get_or-map, map-set, length-map, length_push, set-get_or}
 use Rattle.rx_counts.specs.declared.record.Record.{Record}
 use Rattle.rx_counts.specs.Stands.{record_at}

@@ -1,17 +1,14 @@
 -- One turn of the hand-over.
-use Rattle.std.specs.Prelude.{◌≡◌, ℕ, ◌<◌, ◌≤◌, ◌+◌, ◌^◌, Bool, true, false, cond, ◌&&◌, ◌==◌, not, ltb, List, [], ◌∷◌, ◌++◌, Option, Some, None, is_none, is_some, slice_index_or, length, IfSome, refl}
+use Rattle.std.proofs.Common.{◌≡◌, ℕ, ◌<◌, ◌≤◌, ◌+◌, ◌^◌, Bool, true, false, cond, ◌&&◌, ◌==◌, not, ltb, List, [], ◌∷◌, ◌++◌, Option, Some, None, is_none, is_some, slice_index_or, length, IfSome, refl, sym, ap, ◌∙◌, subst, arith, ⊎_elim}
 use Rattle.std.specs.List.{find}
 use Rattle.std.specs.Global.{Box}
-use Rattle.std.proofs.Common.{sym, ap, ◌∙◌, subst, arith, ⊎_elim}
 use Rattle.std.proofs.lemmas.Bool.{eqb-true, eq-eqb, ne_eqb, true≢false, and_parts, lt-ltb, le-ltb, cases_eq, cases_lt}
 use Rattle.std.proofs.lemmas.List.Sums.{count_by-le-length}
 use Rattle.std.proofs.Math.Bool.{and-false, and-true}
 use Rattle.rx_sound.proofs.Parents.{parent_rooted}
-use Rattle.rx_base.specs.declared.ids.PlaceId.{PlaceId}
-use Rattle.rx_base.specs.declared.ids.ScopeId.{ScopeId}
+use Rattle.rx_rules.proofs.Common.{PlaceId, ScopeId, Tree, is_scope, the_root, has_number}
 use Rattle.rx_base.proofs.Options.{some-of}
 use Rattle.rx_rules.specs.declared.tasks.Scope.{Scope}
-use Rattle.rx_rules.specs.Tree.{Tree, is_scope, the_root}
 use Rattle.rx_sound.specs.Chains.{Falls}
 use Rattle.rx_sound.specs.Sound.{Each}
 use Rattle.rx_sound.proofs.Changes.{each_found, each_more}
@@ -19,7 +16,6 @@ use Rattle.rx_sound.proofs.Releasing.{each_none, each_below}
 use Rattle.rx_counts.specs.declared.record.Sums.{Sums}
 use Rattle.rx_counts.specs.declared.record.Record.{Record}
 use Rattle.rx_counts.specs.Keeping.{stands_home, keeper, is_number, kept_at, same_where, count_of, is_orphan, faults_in}
-use Rattle.rx_rules.specs.Counts.{has_number}
 use Rattle.rx_counts.specs.Stands.{table_size, slot, ShapeOf, SumsOf, RecordOf, Both, RecordsFit, AllMasked, ChangedBy, IsShaped, record_at}
 use Rattle.rx_counts.specs.Inside.Dying.{Emptied, Gained, MayGain, given_by, given_until, Passing, parent_there}
 use Rattle.rx_counts.proofs.HandOver.{but, heir, never_but, count_heir, keeper_keeps}

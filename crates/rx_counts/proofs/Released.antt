@@ -1,21 +1,17 @@
 -- What a release leaves of the records.
-use Rattle.std.specs.Prelude.{◌≡◌, ℕ, Bool, true, false, cond, ◌||◌, ◌&&◌, not, ltb, List, [], ◌∷◌, Option, Some, None, is_none, is_some, filter, count_by, refl}
+use Rattle.std.proofs.Common.{◌≡◌, ℕ, Bool, true, false, cond, ◌||◌, ◌&&◌, not, ltb, List, [], ◌∷◌, Option, Some, None, is_none, is_some, filter, count_by, refl, sym, ap, ◌∙◌, subst, arith}
 use Rattle.std.specs.List.{find}
 use Rattle.std.specs.Global.{Box}
-use Rattle.std.proofs.Common.{sym, ap, ◌∙◌, subst, arith}
 use Rattle.std.proofs.lemmas.Bool.{eqb-true, ne_eqb, true≢false, and_right, not-true}
-use Rattle.rx_base.specs.declared.ids.ScopeId.{ScopeId}
+use Rattle.rx_rules.proofs.Common.{ScopeId, Tree, is_scope, on_chain, is_under, quiet, was_lost_at, without, has_number}
 use Rattle.rx_base.proofs.SameIds.{scope-is}
 use Rattle.rx_rules.specs.declared.tasks.Task.{Task}
 use Rattle.rx_rules.specs.declared.tasks.Scope.{Scope}
-use Rattle.rx_rules.specs.Tree.{Tree, is_scope, on_chain, is_under, quiet}
-use Rattle.rx_rules.specs.Entries.{was_lost_at, without}
 use Rattle.rx_sound.specs.Chains.{meets}
 use Rattle.rx_sound.specs.Sound.{Sound}
 use Rattle.rx_sound.proofs.Releasing.{on_meets, passes_marks, drops, leaves, stayer_free, each_none, each_filtered, each_all}
 use Rattle.rx_counts.specs.declared.record.Record.{Record}
 use Rattle.rx_counts.specs.Keeping.{stands_home, keeper, finishes, is_number, kept_at, same_where, is_orphan, held}
-use Rattle.rx_rules.specs.Counts.{has_number}
 use Rattle.rx_counts.specs.Stands.{RecordOf, Both, RecordsFit, record_at}
 use Rattle.rx_counts.specs.Inside.Freeing.{IsLast}
 use Rattle.rx_counts.proofs.Counting.{count_same, count_filter, any_counted, sum_same, sum_filter}

@@ -1,14 +1,12 @@
 -- The cells of a table of counts: places and pairs that differ have different cells, and each cell is that of one of them.
-use Rattle.std.specs.Prelude.{◌≡◌, ℕ, zero, suc, ◌<◌, ◌≤◌, ◌+◌, ◌*◌, ◌-◌, ◌/◌, ◌%◌, true, false, cond, ◌||◌, ◌&&◌, ◌==◌, ltb, List, length, slice_index_or, refl}
-use Rattle.std.proofs.Common.{sym, ap, ◌∙◌, subst, arith, ⊎_elim}
+use Rattle.std.proofs.Common.{◌≡◌, ℕ, zero, suc, ◌<◌, ◌≤◌, ◌+◌, ◌*◌, ◌-◌, ◌/◌, ◌%◌, true, false, cond, ◌||◌, ◌&&◌, ◌==◌, ltb, List, length, slice_index_or, refl, sym, ap, ◌∙◌, subst, arith, ⊎_elim}
 use Rattle.std.proofs.Math.Nat.{div-add-mod, mod-lt, div-lt_iff_lt-mul, add-mul, mul_comm, mul-le-mul_right}
 use Rattle.std.proofs.lemmas.Nat.{div-mul-add, mod-mul-add}
 use Rattle.std.proofs.lemmas.Bool.{eqb-true, eqb-false, eq-eqb, ne_eqb, true≢false, and_parts, and_from, lt-ltb, ltb-true, cases_eq}
 use Rattle.std.proofs.lemmas.List.{get_or_past}
-use Rattle.rx_base.specs.declared.ids.PlaceId.{PlaceId}
+use Rattle.rx_rules.proofs.Common.{PlaceId, is_hit}
 use Rattle.rx_rules.specs.declared.tasks.Where.{Where}
 use Rattle.rx_rules.specs.declared.tasks.Where.TheVariants.{At, Travel}
-use Rattle.rx_rules.specs.Entries.{is_hit}
 use Rattle.rx_sound.specs.Sound.{Inside}
 use Rattle.rx_finish.specs.Calls.{landing}
 use Rattle.rx_counts.specs.Keeping.{same_where}

@@ -1,18 +1,13 @@
 -- How many scopes a release takes, and how many of them have a number below another.
-use Rattle.std.specs.Prelude.{◌≡◌, ℕ, min, ◌<◌, ◌≤◌, ◌+◌, ◌-◌, Bool, true, false, cond, ◌||◌}
-use Rattle.std.specs.Prelude.{◌&&◌, ◌==◌, not, ltb, List, [], ◌∷◌, Option, Some, None, count_by, refl}
+use Rattle.std.proofs.Common.{◌≡◌, ℕ, min, ◌<◌, ◌≤◌, ◌+◌, ◌-◌, Bool, true, false, cond, ◌||◌, ◌&&◌, ◌==◌, not, ltb, List, [], ◌∷◌, Option, Some, None, count_by, refl, sym, ap, ◌∙◌, subst, arith, ⊎_elim}
 use Rattle.std.specs.List.{find}
 use Rattle.std.specs.Global.{Box}
-use Rattle.std.proofs.Common.{sym, ap, ◌∙◌, subst, arith, ⊎_elim}
 use Rattle.std.proofs.lemmas.Bool.{eqb-true, eq-eqb, ne_eqb, true≢false, lt-ltb, cases_eq, cases_lt}
 use Rattle.std.proofs.Math.Bool.{and-false, and-true}
-use Rattle.rx_base.specs.declared.ids.ScopeId.{ScopeId}
+use Rattle.rx_rules.proofs.Common.{ScopeId, Tree, is_scope, on_chain, quiet, masked_under, has_number}
 use Rattle.rx_base.proofs.Elements.{find-passes}
 use Rattle.rx_base.proofs.SameIds.{scope-is}
 use Rattle.rx_rules.specs.declared.tasks.Scope.{Scope}
-use Rattle.rx_rules.specs.Tree.{Tree, is_scope, on_chain, quiet}
-use Rattle.rx_rules.specs.Entries.{masked_under}
-use Rattle.rx_rules.specs.Counts.{has_number}
 use Rattle.rx_sound.specs.Chains.{meets, Falls}
 use Rattle.rx_sound.specs.Sound.{Each, Sound}
 use Rattle.rx_sound.proofs.Changes.{each_found, each_more}

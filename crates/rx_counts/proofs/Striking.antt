@@ -1,27 +1,23 @@
 -- What a death does to the sums of a scope: the strike.
-use Rattle.std.specs.Prelude.{◌≡◌, ℕ, zero, suc, ◌<◌, ◌≤◌, ◌+◌, Bool, true, false, cond, ◌||◌, ◌&&◌, ◌==◌, ltb, List, [], ◌∷◌, Option, Some, None, is_none, slice_index_or, length, map, count_by, IfSome, refl}
+use Rattle.std.proofs.Common.{◌≡◌, ℕ, zero, suc, ◌<◌, ◌≤◌, ◌+◌, Bool, true, false, cond, ◌||◌, ◌&&◌, ◌==◌, ltb, List, [], ◌∷◌, Option, Some, None, is_none, slice_index_or, length, map, count_by, IfSome, refl, sym, ap, ◌∙◌, subst, arith, ⊎_elim}
 use Rattle.std.specs.List.{find, list_any}
 use Rattle.std.specs.Global.{Box}
-use Rattle.std.proofs.Common.{sym, ap, ◌∙◌, subst, arith, ⊎_elim}
 use Rattle.std.proofs.lemmas.Bool.{eqb-true, true≢false, and_parts, lt-ltb, le-ltb, cases_eq, cases_lt, false_from_ne_true}
 use Rattle.std.proofs.Math.Bool.{and-false, and-true}
 use Rattle.rx_sound.proofs.Releasing.{each_all}
 use Rattle.rx_sound.proofs.Staying.{any_same}
-use Rattle.rx_base.specs.declared.ids.PlaceId.{PlaceId}
-use Rattle.rx_base.specs.declared.ids.ScopeId.{ScopeId}
+use Rattle.rx_rules.proofs.Common.{PlaceId, ScopeId, hit, is_hit, was_lost_at, has_number}
 use Rattle.rx_base.proofs.Bools.{same-or-false}
 use Rattle.rx_rules.specs.declared.tasks.Where.{Where}
 use Rattle.rx_rules.specs.declared.tasks.Where.TheVariants.{At, Travel}
 use Rattle.rx_rules.specs.declared.tasks.Blow.{Blow}
 use Rattle.rx_rules.specs.declared.tasks.Task.{Task}
 use Rattle.rx_rules.specs.declared.tasks.Scope.{Scope}
-use Rattle.rx_rules.specs.Entries.{hit, is_hit, was_lost_at}
 use Rattle.rx_sound.proofs.Changes.{each_more}
 use Rattle.rx_sound.proofs.Blows.{hit_under, hit_place, hit_struck}
 use Rattle.rx_counts.specs.declared.record.Sums.{Sums}
 use Rattle.rx_counts.specs.declared.record.Record.{Record}
 use Rattle.rx_counts.specs.Keeping.{keeper, is_number, kept_at, same_where, count_of, total_of}
-use Rattle.rx_rules.specs.Counts.{has_number}
 use Rattle.rx_counts.specs.Stands.{table_size, is_inside, slot, ShapeOf, SumsOf, RecordOf, Both, RecordsFit, Pairs, record_at, in_sums}
 use Rattle.rx_counts.specs.Inside.Dying.{hits_cell, hit_sum, hits, Strikes, StrikesRecord, MayHit}
 use Rattle.rx_counts.proofs.Counting.{one, each_part, count_same, count_none, count_split, count_map, any_map, any_counted}

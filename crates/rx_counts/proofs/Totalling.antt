@@ -1,6 +1,5 @@
 -- The totals after each change of the tree.
-use Rattle.std.specs.Prelude.{◌≡◌, ℕ, suc, ◌<◌, ◌≤◌, ◌+◌, ◌^◌, Bool, true, false, cond, ◌&&◌, not, List, [], ◌∷◌, Option, Some, None, is_none, is_some, filter, length, count_by, refl}
-use Rattle.std.proofs.Common.{sym, ap, ◌∙◌, arith}
+use Rattle.std.proofs.Common.{◌≡◌, ℕ, suc, ◌<◌, ◌≤◌, ◌+◌, ◌^◌, Bool, true, false, cond, ◌&&◌, not, List, [], ◌∷◌, Option, Some, None, is_none, is_some, filter, length, count_by, refl, sym, ap, ◌∙◌, arith}
 use Rattle.std.proofs.lemmas.Bool.{true≢false}
 use Rattle.std.proofs.lemmas.List.Sums.{count_by-le-length}
 use Rattle.rx_rules.specs.declared.tasks.Where.{Where}
@@ -8,9 +7,7 @@ use Rattle.rx_rules.specs.declared.tasks.Where.TheVariants.{At, Travel}
 use Rattle.rx_rules.specs.declared.tasks.Blow.{Blow}
 use Rattle.rx_rules.specs.declared.tasks.Task.{Task}
 use Rattle.rx_rules.specs.declared.tasks.Scope.{Scope}
-use Rattle.rx_base.specs.declared.ids.ScopeId.{ScopeId}
-use Rattle.rx_rules.specs.Tree.{Tree, is_under, on_chain}
-use Rattle.rx_rules.specs.Entries.{change_first, without}
+use Rattle.rx_rules.proofs.Common.{ScopeId, Tree, is_under, on_chain, change_first, without}
 use Rattle.rx_sound.specs.Chains.{meets, Falls}
 use Rattle.rx_sound.proofs.Reached.{sound}
 use Rattle.rx_sound.specs.Sound.{Sound}

@@ -1,18 +1,12 @@
 -- A task waits.
-use Rattle.std.specs.Prelude.{◌≡◌, ℕ, true, List, Some, Ok, length, refl}
-use Rattle.std.proofs.Common.{◌∙◌, sym, subst}
-use Rattle.rx_base.specs.declared.values.Fault.{Fault}
+use Rattle.std.proofs.Common.{◌≡◌, ℕ, true, List, Some, Ok, length, refl, ◌∙◌, sym, subst}
+use Rattle.rx_rules.proofs.Common.{Fault, TaskId, ScopeId, Tree, is_task, is_scope, change_first, waiting, made_act, acts}
 use Rattle.rx_rules.specs.declared.entries.Act.TheVariants.{Wait}
 use Rattle.std.specs.List.{find}
-use Rattle.rx_base.specs.declared.ids.TaskId.{TaskId}
-use Rattle.rx_base.specs.declared.ids.ScopeId.{ScopeId}
 use Rattle.rx_rules.specs.declared.tasks.Scope.{Scope}
-use Rattle.rx_rules.specs.Tree.{Tree, is_task, is_scope}
-use Rattle.rx_rules.specs.Entries.{change_first, waiting, made_act}
 use Rattle.rx_sound.specs.Sound.{Sound}
 use Rattle.rx_sound.proofs.Reached.{sound}
 use Rattle.rx_sound.proofs.Stay.{faulted}
-use Rattle.rx_rules.specs.Reached.{acts}
 use Rattle.rx_finish.specs.declared.ledger.Caller.{Caller}
 use Rattle.rx_finish.specs.Callers.{MayAskWait, HasFinish}
 use Rattle.rx_finish.specs.Calls.{WaitReply}

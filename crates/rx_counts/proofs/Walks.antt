@@ -1,24 +1,18 @@
 -- Walks along parents, on lists of scopes that change.
-use Rattle.std.specs.Prelude.{◌≡◌, ℕ, ◌<◌, ◌≤◌, Bool, true, false, cond, ◌||◌, ◌&&◌, ◌==◌, not, List, [], ◌∷◌, Option, Some, None, is_some, option_map, filter, refl}
+use Rattle.std.proofs.Common.{◌≡◌, ℕ, ◌<◌, ◌≤◌, Bool, true, false, cond, ◌||◌, ◌&&◌, ◌==◌, not, List, [], ◌∷◌, Option, Some, None, is_some, option_map, filter, refl, sym, ap, ◌∙◌, subst, arith}
 use Rattle.std.specs.List.{find, list_any}
-use Rattle.std.proofs.Common.{sym, ap, ◌∙◌, subst, arith}
 use Rattle.std.proofs.lemmas.Bool.{eqb-true, eq-eqb, true≢false, and_parts, or_parts}
 use Rattle.std.proofs.Math.Bool.{and-true}
 use Rattle.rx_sound.proofs.Below.{found_low}
-use Rattle.rx_base.specs.declared.values.Fault.{Fault}
-use Rattle.rx_base.specs.declared.ids.TaskId.{TaskId}
-use Rattle.rx_base.specs.declared.ids.ScopeId.{ScopeId}
+use Rattle.rx_rules.proofs.Common.{Fault, TaskId, ScopeId, is_scope, wants, the_root, chain_in, change_first, has_number}
 use Rattle.rx_rules.specs.declared.tasks.Task.{Task}
 use Rattle.rx_rules.specs.declared.tasks.Scope.{Scope}
-use Rattle.rx_rules.specs.Tree.{is_scope, wants, the_root, chain_in}
-use Rattle.rx_rules.specs.Entries.{change_first}
 use Rattle.rx_sound.specs.Chains.{meets, Falls, HasOpener, Opened}
 use Rattle.rx_sound.specs.Sound.{Each}
 use Rattle.rx_sound.proofs.Chains.{met_start, skips}
 use Rattle.rx_sound.proofs.Releasing.{passes}
 use Rattle.rx_sound.proofs.Stay.{faulted, wants_faulted}
 use Rattle.rx_counts.specs.Keeping.{keeper}
-use Rattle.rx_rules.specs.Counts.{has_number}
 
 -- a walk through a filtered list
 pub keeper_filter : (q keeps : Scope → Bool) (gs : List Scope) (want : Option ScopeId) → passes q gs want ≡ true → keeper keeps (filter q gs) want ≡ keeper keeps gs want

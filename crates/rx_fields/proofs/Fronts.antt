@@ -1,6 +1,5 @@
 -- What stands in front of bytes.
-use Rattle.std.proofs.Common.{◌≡◌, ℕ, ◌<◌, ◌≤◌, ◌^◌, true, cond, nat_lt, List, [], ◌∷◌, ◌++◌, length, ap, sym, ◌∙◌, arith, append-nil}
-use Rattle.std.specs.Prelude.{◌≢◌, Some, None, option_map, ℤ, pos}
+use Rattle.std.proofs.Common.{◌≡◌, ℕ, ◌<◌, ◌≤◌, ◌^◌, true, cond, nat_lt, List, [], ◌∷◌, ◌++◌, length, ap, sym, ◌∙◌, arith, append-nil, ◌≢◌, Some, None, option_map, ℤ, pos}
 use Rattle.std.specs.Int.{w64}
 use mir.Val.{to_z, of_z}
 use Rattle.std.proofs.lemmas.Bool.{eqb-true, le-ltb}

@@ -1,6 +1,5 @@
 -- What stands after other bytes.
-use Rattle.std.proofs.Common.{◌≡◌, ℕ, Bool, true, false, cond, ◌&&◌, ◌==◌, List, [], ◌∷◌, length, take, drop, refl}
-use Rattle.std.specs.Prelude.{Some, None}
+use Rattle.std.proofs.Common.{◌≡◌, ℕ, Bool, true, false, cond, ◌&&◌, ◌==◌, List, [], ◌∷◌, length, take, drop, refl, Some, None}
 use Rattle.std.specs.Str.{bytes_eq}
 use Rattle.rx_fields.specs.Words.{stripped}
 

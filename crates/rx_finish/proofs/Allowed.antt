@@ -1,12 +1,7 @@
 -- Where the condition of a call holds of a reached tree and no death has struck the caller, the call's entry is allowed.
-use Rattle.std.specs.Prelude.{◌≡◌, ℕ, pos, true, false, List, [], Some, None, is_some, refl, ◌⊎◌}
-use Rattle.std.proofs.Common.{sym, ap, ◌∙◌, subst, inl, inr}
+use Rattle.std.proofs.Common.{◌≡◌, ℕ, pos, true, false, List, [], Some, None, is_some, refl, ◌⊎◌, sym, ap, ◌∙◌, subst, inl, inr}
 use Rattle.std.proofs.lemmas.Bool.{eqb-true}
-use Rattle.rx_base.specs.declared.ids.PlaceId.{PlaceId}
-use Rattle.rx_base.specs.declared.ids.TaskId.{TaskId}
-use Rattle.rx_base.specs.declared.ids.ScopeId.{ScopeId}
-use Rattle.rx_base.specs.declared.values.Fault.{Fault}
-use Rattle.rx_base.specs.declared.place_set.PlaceSet.{PlaceSet}
+use Rattle.rx_rules.proofs.Common.{PlaceId, TaskId, ScopeId, Fault, PlaceSet, Tree, is_task, task_of, own_scope, inner, place_number, IsLive, ActAsks, AllowedAct, MayFree, Reached}
 use Rattle.rx_base.proofs.Elements.{find-passes}
 use Rattle.rx_rules.specs.declared.tasks.Where.{Where}
 use Rattle.rx_rules.specs.declared.tasks.Where.TheVariants.{At, Travel}
@@ -14,9 +9,8 @@ use Rattle.rx_rules.specs.declared.tasks.Task.{Task}
 use Rattle.rx_rules.specs.declared.tasks.Scope.{Scope}
 use Rattle.rx_rules.specs.declared.entries.Act.{Act}
 use Rattle.rx_rules.specs.declared.entries.Act.TheVariants.{Open, At as Calls, Spawn, Arrive, Wait, Release, End, Print, Census}
-use Rattle.rx_rules.specs.Tree.{Tree, is_task, task_of, own_scope, inner, governing}
-use Rattle.rx_rules.specs.Entries.{place_number, IsLive, IsLiveHere, ActAsks, AllowedAct, MayFree}
-use Rattle.rx_rules.specs.Reached.{Reached}
+use Rattle.rx_rules.specs.Tree.{governing}
+use Rattle.rx_rules.specs.Entries.{IsLiveHere}
 use Rattle.rx_finish.specs.declared.ledger.Caller.{Caller}
 use Rattle.rx_finish.specs.Callers.{MayAsk, CallerStands, HasLeft, IsMoving, Travels, does_travel, HasFinish, WaitsInside, IsBare, MayAskMoving, MayAskTo, MayAskArrive, MayAskWait, MayAskRelease, MayAskEnd}
 use Rattle.rx_finish.specs.Calls.{IsUnstruck, blow_of, landing}

@@ -1,17 +1,12 @@
 -- A task that has left a reached tree with a release is struck.
-use Rattle.std.specs.Prelude.{◌≡◌, Bool, true, false, cond, not, ◌&&◌, List, [], ◌∷◌, ◌++◌, filter, Some, None, is_some, refl, ◌⊎◌}
+use Rattle.std.proofs.Common.{◌≡◌, Bool, true, false, cond, not, ◌&&◌, List, [], ◌∷◌, ◌++◌, filter, Some, None, is_some, refl, ◌⊎◌, ap, ◌∙◌, subst, inl, inr}
 use Rattle.std.specs.List.{find, list_all}
-use Rattle.std.proofs.Common.{ap, ◌∙◌, subst, inl, inr}
 use Rattle.std.proofs.lemmas.List.Folds.{list_all-append}
-use Rattle.rx_base.specs.declared.ids.TaskId.{TaskId}
-use Rattle.rx_base.specs.declared.ids.ScopeId.{ScopeId}
-use Rattle.rx_base.specs.declared.values.Fault.{Fault}
+use Rattle.rx_rules.proofs.Common.{TaskId, ScopeId, Fault, Tree, is_task, task_of, is_under, the_root, after_end, change_scope, made_act, without, Reached, opens, acts, dies, joins}
 use Rattle.rx_rules.specs.declared.tasks.Task.{Task}
 use Rattle.rx_rules.specs.declared.entries.Act.{Act}
 use Rattle.rx_rules.specs.declared.entries.Act.TheVariants.{Open, At as Calls, Spawn, Arrive, Wait, Release, End, Print, Census}
-use Rattle.rx_rules.specs.Tree.{Tree, is_task, task_of, is_under, the_root}
-use Rattle.rx_rules.specs.Entries.{after_end, change_scope, made_act, without}
-use Rattle.rx_rules.specs.Reached.{Reached, opens, acts, ends, dies, joins}
+use Rattle.rx_rules.specs.Reached.{ends}
 use Rattle.rx_sound.specs.Blows.{blow_at}
 use Rattle.rx_sound.specs.Sound.{TaskFits, LeftFits, Sound}
 use Rattle.rx_sound.proofs.Changes.{each_found}

@@ -1,11 +1,7 @@
 -- What an unstruck caller's entry does, by what the caller says of itself.
-use Rattle.std.specs.Prelude.{◌≡◌, List, ◌++◌, filter, not}
-use Rattle.std.proofs.Common.{ap, ◌∙◌}
-use Rattle.rx_base.specs.declared.values.Fault.{Fault}
+use Rattle.std.proofs.Common.{◌≡◌, List, ◌++◌, filter, not, ap, ◌∙◌}
+use Rattle.rx_rules.proofs.Common.{Fault, Tree, is_task, home_for, place_number, after_end, change_scope, Reached}
 use Rattle.rx_rules.specs.declared.tasks.Task.{Task}
-use Rattle.rx_rules.specs.Tree.{Tree, is_task}
-use Rattle.rx_rules.specs.Entries.{home_for, place_number, after_end, change_scope}
-use Rattle.rx_rules.specs.Reached.{Reached}
 use Rattle.rx_finish.specs.declared.ledger.Caller.{Caller}
 use Rattle.rx_finish.specs.Callers.{MayAsk}
 use Rattle.rx_finish.specs.Calls.{IsUnstruck}

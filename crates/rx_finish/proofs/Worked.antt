@@ -1,15 +1,9 @@
 -- Replies of worked calls, with the numbers that the tree gives.
-use Rattle.std.specs.Prelude.{◌≡◌, ℕ, ◌<◌, ◌^◌, [], Option, Some, None, zero, suc, replicate, slice_index_or}
-use Rattle.std.proofs.Common.{sym, ap, ◌∙◌, subst, inl, arith}
-use Rattle.rx_base.specs.declared.ids.PlaceId.{PlaceId}
-use Rattle.rx_base.specs.declared.ids.TaskId.{TaskId}
-use Rattle.rx_base.specs.declared.ids.ScopeId.{ScopeId}
+use Rattle.std.proofs.Common.{◌≡◌, ℕ, ◌<◌, ◌^◌, [], Option, Some, None, zero, suc, replicate, slice_index_or, sym, ap, ◌∙◌, subst, inl, arith}
+use Rattle.rx_rules.proofs.Common.{PlaceId, TaskId, ScopeId, IsOlder, Tree, task_of, inner, governs, made_act}
 use Rattle.rx_rules.specs.declared.tasks.Task.{Task}
 use Rattle.rx_rules.specs.declared.tasks.Where.{Where}
-use Rattle.rx_rules.specs.Reached.{IsOlder}
 use Rattle.rx_rules.specs.declared.entries.Act.TheVariants.{Open, At as Calls, Spawn}
-use Rattle.rx_rules.specs.Tree.{Tree, task_of, inner, governs}
-use Rattle.rx_rules.specs.Entries.{made_act}
 use Rattle.rx_finish.specs.declared.ledger.Caller.{Caller}
 use Rattle.rx_finish.specs.Callers.{MayAsk}
 use Rattle.rx_finish.specs.Calls.{Did}

@@ -1,8 +1,7 @@
 -- The lines meet the rules of the checker.
-use Rattle.std.specs.Prelude.{◌≡◌, ℕ, ◌+◌, ◌*◌, ◌≤◌, zero, suc, nat_lt, false, List, [], Some, None, if◌then◌else◌, refl}
-use Rattle.std.proofs.Common.{arith, ap, sym, ◌∙◌}
+use Rattle.std.proofs.Common.{◌≡◌, ℕ, ◌+◌, ◌*◌, ◌≤◌, zero, suc, nat_lt, false, List, [], Some, None, if◌then◌else◌, refl, arith, ap, sym, ◌∙◌}
 use Rattle.std.proofs.lemmas.Bool.Decides.{nat_tests}
-use Rattle.rx_rules.specs.Code.{work, work_of}
+use Rattle.rx_rules.proofs.Common.{work, work_of}
 use Rattle.rx_check.specs.Rules.{Sight, sights, nodes, first_fault, or_work, verdict}
 use Rattle.rx_gen.specs.Lines.{line, lines_from, lines}
 

@@ -1,6 +1,5 @@
 -- The lines are of the grammar, without names.
-use Rattle.std.specs.Prelude.{◌≡◌, ℕ, ◌+◌, ◌≤◌, zero, suc, List, [], Some, slice_get, refl}
-use Rattle.std.proofs.Common.{arith}
+use Rattle.std.proofs.Common.{◌≡◌, ℕ, ◌+◌, ◌≤◌, zero, suc, List, [], Some, slice_get, refl, arith}
 use Rattle.std.proofs.Math.Nat.{mod-le}
 use Rattle.rx_syntax.specs.Lexical.{most}
 use Rattle.rx_syntax.specs.Grammar.{spellings, InRange, AllInRange}

@@ -1,11 +1,10 @@
 -- The nodes of the lines, by their numbers, stand for the lines.
-use Rattle.std.specs.Prelude.{Vec, map, ◌≡◌, ℕ, ◌+◌, ◌-◌, ◌*◌, ◌%◌, ◌^◌, ◌<◌, ◌≤◌, zero, suc, pos, true, List, [], ◌∷◌, ◌++◌, length, Some, slice_get, refl}
-use Rattle.std.proofs.Common.{arith, ap, sym, ◌∙◌, subst, append_assoc, append-nil, length-append}
+use Rattle.std.proofs.Common.{Vec, map, ◌≡◌, ℕ, ◌+◌, ◌-◌, ◌*◌, ◌%◌, ◌^◌, ◌<◌, ◌≤◌, zero, suc, pos, true, List, [], ◌∷◌, ◌++◌, length, Some, slice_get, refl, arith, ap, sym, ◌∙◌, subst, append_assoc, append-nil, length-append}
 use Rattle.std.specs.Global.{Global}
 use Rattle.std.proofs.lemmas.Option.{same_Some}
 use Rattle.std.proofs.lemmas.List.{map-append}
 use Rattle.rx_base.proofs.Elements.{get-more, get-last}
-use Rattle.rx_rules.specs.Code.{Block, Nothing, Then}
+use Rattle.rx_rules.proofs.Common.{Block, Nothing, Then}
 use Rattle.rx_syntax.specs.declared.nodes.StmtId.{StmtId}
 use Rattle.rx_syntax.specs.declared.nodes.Expr.{Expr as Part}
 use Rattle.rx_syntax.specs.declared.nodes.Expr.TheVariants.{Num as NumPart}

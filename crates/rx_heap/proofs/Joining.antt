@@ -1,6 +1,5 @@
 -- A hole joined in among the others.
-use Rattle.std.proofs.Common.{◌≡◌, ℕ, zero, suc, ◌+◌, ◌*◌, ◌<◌, ◌≤◌, ◌⊎◌, inl, inr, List, [], ◌∷◌, ◌++◌, length, get_or, take, drop, set, arith, refl, subst, sym, ◌∙◌, ap, add-one, append_assoc}
-use Rattle.std.specs.Prelude.{remove, insert, All}
+use Rattle.std.proofs.Common.{◌≡◌, ℕ, zero, suc, ◌+◌, ◌*◌, ◌<◌, ◌≤◌, ◌⊎◌, inl, inr, List, [], ◌∷◌, ◌++◌, length, get_or, take, drop, set, arith, refl, subst, sym, ◌∙◌, ap, add-one, append_assoc, remove, insert, All}
 use Rattle.std.proofs.lemmas.Bool.{cases_lt}
 use Rattle.std.proofs.lemmas.List.{take-append-drop, drop_more, take_more, set_split, drop_all, take_more_set, drop-set-lt, get_or_push, length_push}
 use Rattle.std.proofs.lemmas.List.Edits.{length-insert}

@@ -1,6 +1,5 @@
 -- How live blocks and holes lie after a block is taken and after one is given back.
-use Rattle.std.proofs.Common.{◌≡◌, ◌≢◌, ℕ, ◌+◌, ◌-◌, ◌*◌, ◌^◌, ◌<◌, ◌≤◌, ◌⊎◌, inl, inr, ℤ, List, ◌∷◌, ◌++◌, length, get_or, take, drop, set, arith, subst, sym, ◌∙◌, ap, length-set, get_or-set_same, get_or-set_other, length-take, length-append, length-drop}
-use Rattle.std.specs.Prelude.{All, slice_index}
+use Rattle.std.proofs.Common.{◌≡◌, ◌≢◌, ℕ, ◌+◌, ◌-◌, ◌*◌, ◌^◌, ◌<◌, ◌≤◌, ◌⊎◌, inl, inr, ℤ, List, ◌∷◌, ◌++◌, length, get_or, take, drop, set, arith, subst, sym, ◌∙◌, ap, length-set, get_or-set_same, get_or-set_other, length-take, length-append, length-drop, All, slice_index}
 use Rattle.std.proofs.lemmas.Bool.{cases_lt, cases_eq}
 use Rattle.rx_heap.specs.declared.block.Hole.{Hole}
 use Rattle.rx_heap.specs.Region.{Region, Extent, IsLiveExtent, InHole, LieApart, IsLaid, IsFree, IsLeastFree}

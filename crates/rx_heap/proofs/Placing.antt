@@ -1,7 +1,6 @@
 -- The place of a hole among the others, as the code finds it.
-use Rattle.std.proofs.Common.{◌≡◌, ℕ, ◌+◌, ◌<◌, ◌≤◌, ◌↔◌, Bool, true, false, IsTrue, List, length, get_or, take, set, arith, subst, sym}
+use Rattle.std.proofs.Common.{◌≡◌, ℕ, ◌+◌, ◌<◌, ◌≤◌, ◌↔◌, Bool, true, false, IsTrue, List, length, get_or, take, set, arith, subst, sym, remove, insert, All}
 use Rattle.std.proofs.lemmas.Bool.{iff_false}
-use Rattle.std.specs.Prelude.{remove, insert, All}
 use Rattle.rx_heap.specs.declared.block.Hole.{Hole}
 use Rattle.rx_heap.specs.Inside.HoleEdits.{Joins, HasRoom}
 use Rattle.rx_heap.proofs.Joining.{EndsBefore, BeginsAfter, LieApart-get_or, joins_alone, joins_next, joins_last, joins_between, length-joins}

@@ -1,7 +1,6 @@
 -- A list in order stays so with an item that comes after its last.
-use Rattle.std.specs.Prelude.{List, [], ◌∷◌, ◌++◌}
-use Rattle.rx_base.specs.declared.ids.Kill.{Kill}
-use Rattle.rx_rules.specs.Run.{Ascends}
+use Rattle.std.proofs.Common.{List, [], ◌∷◌, ◌++◌}
+use Rattle.rx_rules.proofs.Common.{Kill, Ascends}
 use Rattle.rx_history.specs.KillOrder.{IsAscending, ComesLast}
 
 from : (a : Kill) (ks : List Kill) (item : Kill) → Ascends a ks → ComesLast (a ∷ ks) item → Ascends a (ks ++ item ∷ [])

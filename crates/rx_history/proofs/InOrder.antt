@@ -1,9 +1,7 @@
 -- The order of kills: of two that differ one comes after the other, and any kills stand in order in one list.
-use Rattle.std.proofs.Common.{◌≡◌, ◌⊎◌, inl, inr, ℕ, zero, suc, ◌<◌, Bool, true, false, List, [], ◌∷◌, length, nat_lt, ◌==◌, ◌||◌, ◌&&◌, refl, ap, sym, ◌∙◌, subst, arith}
-use Rattle.std.specs.Prelude.{Contains, Decides, slice_index_or}
+use Rattle.std.proofs.Common.{◌≡◌, ◌⊎◌, inl, inr, ℕ, zero, suc, ◌<◌, Bool, true, false, List, [], ◌∷◌, length, nat_lt, ◌==◌, ◌||◌, ◌&&◌, refl, ap, sym, ◌∙◌, subst, arith, Contains, Decides, slice_index_or}
 use Rattle.std.proofs.lemmas.Bool.Decides.{nat_tests}
-use Rattle.rx_base.specs.declared.ids.Kill.{Kill}
-use Rattle.rx_rules.specs.Run.{ComesAfter, Ascends}
+use Rattle.rx_rules.proofs.Common.{Kill, ComesAfter, Ascends}
 use Rattle.rx_rules.proofs.Kills.{further}
 use Rattle.rx_history.specs.KillOrder.{IsAscending, is_before, OrderedKills, OneOrder}
 

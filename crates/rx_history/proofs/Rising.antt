@@ -1,7 +1,6 @@
 -- A list of moments that never fall stays so with one that is at least its last.
-use Rattle.std.specs.Prelude.{ℕ, List, [], ◌∷◌, ◌++◌}
-use Rattle.std.proofs.Common.{arith}
-use Rattle.rx_rules.specs.Run.{AreJoins}
+use Rattle.std.proofs.Common.{ℕ, List, [], ◌∷◌, ◌++◌, arith}
+use Rattle.rx_rules.proofs.Common.{AreJoins}
 use Rattle.rx_history.specs.JoinOrder.{NeverFalls, IsAtLeastLast}
 
 from : (low : ℕ) (e : ℕ) (es : List ℕ) (item : ℕ) → AreJoins low (e ∷ es) → IsAtLeastLast (e ∷ es) item → AreJoins low (e ∷ es ++ item ∷ [])

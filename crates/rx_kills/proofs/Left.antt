@@ -1,10 +1,9 @@
 -- What is left of a plan: what it starts with, and what is left after that.
 use Rattle.std.proofs.Common.{◌≡◌, ℕ, zero, suc, ◌<◌, ◌≤◌, Bool, true, false, cond, nat_le, List, [], ◌∷◌, drop, length, refl, ap, sym, ◌∙◌, arith}
 use Rattle.std.proofs.lemmas.Bool.Decides.{nat_tests}
-use Rattle.rx_base.specs.declared.ids.Kill.{Kill}
+use Rattle.rx_rules.proofs.Common.{Kill, Event, put_in, events, AreJoins, rest_of}
 use Rattle.rx_rules.specs.declared.entries.Entry.TheVariants.{Death, Join}
 use Rattle.std.proofs.lemmas.List.{drop_all}
-use Rattle.rx_rules.specs.Run.{Event, put_in, events, AreJoins, rest_of}
 use Rattle.rx_history.specs.JoinOrder.{NeverFalls}
 use Rattle.rx_rules.proofs.Plans.{join_at, death_at, starts-join, starts-death}
 use Rattle.rx_kills.specs.Inside.Front.{starts_with_join}

@@ -1,9 +1,7 @@
 -- Where a statement is before another, one task keeps the order by itself, or a `finish` or `at` on the way does.
-use Rattle.std.specs.Prelude.{◌≡◌, ◌⊎◌, ℕ, zero, suc, Bool, true, false, cond, ◌==◌, nat_lt, List, [], ◌∷◌, ◌++◌, Option, Some, refl}
-use Rattle.std.proofs.Common.{ap, sym, subst, ◌∙◌, arith, inl, inr}
+use Rattle.std.proofs.Common.{◌≡◌, ◌⊎◌, ℕ, zero, suc, Bool, true, false, cond, ◌==◌, nat_lt, List, [], ◌∷◌, ◌++◌, Option, Some, refl, ap, sym, subst, ◌∙◌, arith, inl, inr}
 use Rattle.std.proofs.lemmas.Bool.{true≢false, eqb-true, ltb-true, cond_both}
-use Rattle.rx_rules.specs.Code.{Stmt, SetTo, New, Get, Put, Forget, Census, Print, Throw, Async, AtAsync, At, Finish, If, Repeat, Try, Block, Nothing, Then}
-use Rattle.rx_rules.specs.Order.{is_kept, is_kept_in, before_inside, is_before_in, comes_before}
+use Rattle.rx_rules.proofs.Common.{Stmt, SetTo, New, Get, Put, Forget, Census, Print, Throw, Async, AtAsync, At, Finish, If, Repeat, Try, Block, Nothing, Then, is_kept, is_kept_in, before_inside, is_before_in, comes_before}
 use Rattle.rx_laws.proofs.Paths.{Below}
 use Rattle.rx_laws.proofs.Straight.{stmt_at, stmt_in, code_at, is_straight, is_straight_in, is_ahead, is_ahead_in, comes_ahead, is_waiter}
 

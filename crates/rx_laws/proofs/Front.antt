@@ -1,16 +1,10 @@
 -- No statement told is before one that another living task has still to begin, as soon as each waiter of a pending statement
 -- is still to be begun or stands open; and so the order of a history.
-use Rattle.std.specs.Prelude.{◌≡◌, ◌⊎◌, ℕ, ◌<◌, true, List, [], ◌∷◌, ◌++◌, Some}
-use Rattle.std.proofs.Common.{sym, subst, ◌∙◌, inl, inr}
+use Rattle.std.proofs.Common.{◌≡◌, ◌⊎◌, ℕ, ◌<◌, true, List, [], ◌∷◌, ◌++◌, Some, sym, subst, ◌∙◌, inl, inr}
 use Rattle.std.proofs.lemmas.Bool.{true≢false, false_from_ne_true, cases_eq}
 use Rattle.rx_rules.specs.declared.entries.Entry.{Entry}
 use Rattle.rx_rules.specs.declared.events.PlaceEvent.{PlaceEvent}
-use Rattle.rx_rules.specs.Code.{Block, Stmt}
-use Rattle.rx_rules.specs.Tree.{Tree}
-use Rattle.rx_rules.specs.Fold.{opening}
-use Rattle.rx_rules.specs.Terms.{Term, Empty, items}
-use Rattle.rx_rules.specs.Run.{Given, IsRun}
-use Rattle.rx_rules.specs.Order.{InOrder, told, is_kept, comes_before}
+use Rattle.rx_rules.proofs.Common.{Block, Stmt, Tree, opening, Term, Empty, items, Given, IsRun, InOrder, told, is_kept, comes_before}
 use Rattle.rx_laws.proofs.Straight.{code_at, comes_ahead, is_waiter}
 use Rattle.rx_laws.proofs.Paths.{Starts, starts-not_below}
 use Rattle.rx_laws.proofs.TermOrder.{Todo}

@@ -1,14 +1,11 @@
 -- The finish that governs a task, among the bones of the tree: what stands no further in than a finish of the chain stands on
 -- the chain of the governing finish.
-use Rattle.std.specs.Prelude.{◌≡◌, ℕ, ◌<◌, ◌≤◌, Bool, true, false, cond, ◌==◌, List, [], ◌∷◌, map, Option, Some, None, refl}
+use Rattle.std.proofs.Common.{◌≡◌, ℕ, ◌<◌, ◌≤◌, Bool, true, false, cond, ◌==◌, List, [], ◌∷◌, map, Option, Some, None, refl, ap, sym, subst, ◌∙◌, arith, inl, inr}
 use Rattle.std.specs.List.{find}
-use Rattle.std.proofs.Common.{ap, sym, subst, ◌∙◌, arith, inl, inr}
 use Rattle.std.proofs.lemmas.Bool.{eqb-true, eq-eqb, ne_eqb, or_cases, or_left, or_right, true≢false}
-use Rattle.rx_base.specs.declared.ids.ScopeId.{ScopeId}
+use Rattle.rx_rules.proofs.Common.{ScopeId, Tree, is_finish, chain_in, the_root, inner, governs, is_on}
 use Rattle.rx_rules.specs.declared.tasks.Task.{Task}
 use Rattle.rx_rules.specs.declared.tasks.Scope.{Scope}
-use Rattle.rx_rules.specs.Tree.{Tree, is_finish, chain_in, the_root, inner, governs}
-use Rattle.rx_rules.specs.Laws.{is_on}
 use Rattle.rx_laws.proofs.Lines.{Bone, bone, bones, wanted, line, nums, Falls, has-below, line-in, chain-bones}
 
 abbrev pub first_num : List Bone → ℕ

@@ -1,9 +1,7 @@
 -- The items of a term by their paths: a waiter of what a term has to begin is to be begun itself, or an item lies in it.
-use Rattle.std.specs.Prelude.{◌≡◌, ◌⊎◌, ℕ, true, List, [], ◌∷◌, ◌++◌, Some, refl}
-use Rattle.std.proofs.Common.{ap, sym, subst, ◌∙◌, arith, inl, inr}
+use Rattle.std.proofs.Common.{◌≡◌, ◌⊎◌, ℕ, true, List, [], ◌∷◌, ◌++◌, Some, refl, ap, sym, subst, ◌∙◌, arith, inl, inr}
 use Rattle.std.proofs.lemmas.Bool.{true≢false}
-use Rattle.rx_rules.specs.Code.{Block, Stmt}
-use Rattle.rx_rules.specs.Terms.{Term, Empty, Run, Raise, Turns, Trying, Body, Held, at}
+use Rattle.rx_rules.proofs.Common.{Block, Stmt, Term, Empty, Run, Raise, Turns, Trying, Body, Held, at}
 use Rattle.rx_laws.proofs.Straight.{code_at, is_waiter}
 use Rattle.rx_laws.proofs.Paths.{Starts, starts-same, starts-trans, starts-at}
 use Rattle.rx_laws.proofs.TermOrder.{Todo}

@@ -1,11 +1,7 @@
 -- Each waiter that an item of a living task lies in is open: then each pending statement is covered.
-use Rattle.std.specs.Prelude.{◌≡◌, ℕ, ◌<◌, true, List, ◌∷◌, ◌++◌, Some}
-use Rattle.std.proofs.Common.{sym, subst, ◌∙◌, inl, inr}
+use Rattle.std.proofs.Common.{◌≡◌, ℕ, ◌<◌, true, List, ◌∷◌, ◌++◌, Some, sym, subst, ◌∙◌, inl, inr}
 use Rattle.rx_rules.specs.declared.entries.Entry.{Entry}
-use Rattle.rx_rules.specs.Code.{Block, Stmt}
-use Rattle.rx_rules.specs.Tree.{Tree}
-use Rattle.rx_rules.specs.Terms.{Term}
-use Rattle.rx_rules.specs.Order.{is_kept}
+use Rattle.rx_rules.proofs.Common.{Block, Stmt, Tree, Term, is_kept}
 use Rattle.rx_laws.proofs.Straight.{code_at, stmt_at, is_waiter}
 use Rattle.rx_laws.proofs.Paths.{Starts, left_over, starts-cut}
 use Rattle.rx_laws.proofs.TermCode.{Coded, code-on}

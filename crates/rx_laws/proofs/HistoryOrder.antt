@@ -1,25 +1,12 @@
 -- The history of a whole run keeps the order of statements.
-use Rattle.std.specs.Prelude.{◌≡◌, ◌⊎◌, ℕ, ◌+◌, ◌<◌, true, false, List, [], ◌∷◌, filter, Some, None, refl}
-use Rattle.std.proofs.Common.{ap, sym, subst, ◌∙◌, arith, inl, inr}
+use Rattle.std.proofs.Common.{◌≡◌, ◌⊎◌, ℕ, ◌+◌, ◌<◌, true, false, List, [], ◌∷◌, filter, Some, None, refl, ap, sym, subst, ◌∙◌, arith, inl, inr}
 use Rattle.std.proofs.lemmas.Bool.{false_from_ne_true, true≢false}
-use Rattle.rx_base.specs.declared.ids.TaskId.{TaskId}
-use Rattle.rx_base.specs.declared.ids.PlaceId.{PlaceId}
-use Rattle.rx_base.specs.declared.values.Fault.{Fault}
-use Rattle.rx_base.specs.declared.place_set.PlaceSet.{PlaceSet}
+use Rattle.rx_rules.proofs.Common.{TaskId, PlaceId, Fault, PlaceSet, Block, Stmt, Term, Vars, started_by, Tree, the_root, Allowed, AllowedAct, made, births_of, Given, IsRun, InOrder, told, is_on, walk, links, born_so_far}
 use Rattle.rx_rules.specs.declared.entries.Act.{Act}
 use Rattle.rx_rules.specs.declared.entries.Act.TheVariants.{Open, At as Calling, Spawn, Arrive, Wait, Release, End, Print as Printed, Census as Counted}
 use Rattle.rx_rules.specs.declared.entries.Entry.{Entry}
 use Rattle.rx_rules.specs.declared.entries.Entry.TheVariants.{Step, Root, Death, Join}
 use Rattle.rx_rules.specs.declared.events.PlaceEvent.{PlaceEvent}
-use Rattle.rx_rules.specs.Code.{Block, Stmt}
-use Rattle.rx_rules.specs.Terms.{Term, Vars}
-use Rattle.rx_rules.specs.Plays.{started_by}
-use Rattle.rx_rules.specs.Tree.{Tree, the_root}
-use Rattle.rx_rules.specs.Entries.{Allowed, AllowedAct, made}
-use Rattle.rx_rules.specs.Fold.{births_of}
-use Rattle.rx_rules.specs.Run.{Given, IsRun}
-use Rattle.rx_rules.specs.Order.{InOrder, told}
-use Rattle.rx_rules.specs.Laws.{is_on, walk, links, born_so_far}
 use Rattle.rx_rules.proofs.Numbers.{next-made}
 use Rattle.rx_laws.proofs.Lines.{bones}
 use Rattle.rx_laws.proofs.Losses.{is_off}

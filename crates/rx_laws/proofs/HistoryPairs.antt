@@ -1,20 +1,11 @@
 -- A relation that holds of each two statements that a history tells, the earlier first, if it follows from the order of words
 -- and holds of each one that is told and each one that another living task has still to begin then.
-use Rattle.std.specs.Prelude.{◌≡◌, ℕ, suc, ◌<◌, ◌≤◌, Bool, true, List, [], ◌∷◌, ◌++◌, Some, slice_get, refl}
-use Rattle.std.proofs.Common.{sym, subst, ◌∙◌, arith}
-use Rattle.rx_base.specs.declared.ids.PlaceId.{PlaceId}
-use Rattle.rx_base.specs.declared.ids.TaskId.{TaskId}
+use Rattle.std.proofs.Common.{◌≡◌, ℕ, suc, ◌<◌, ◌≤◌, Bool, true, List, [], ◌∷◌, ◌++◌, Some, slice_get, refl, sym, subst, ◌∙◌, arith}
+use Rattle.rx_rules.proofs.Common.{PlaceId, TaskId, Block, Term, Vars, Tree, Allowed, made, AllAllowed, moves_from, started_by, told, own_path}
 use Rattle.rx_rules.specs.declared.events.Cell.{Cell}
 use Rattle.rx_rules.specs.declared.entries.Act.{Act}
 use Rattle.rx_rules.specs.declared.entries.Entry.{Entry}
 use Rattle.rx_rules.specs.declared.entries.Entry.TheVariants.{Step, Root, Death, Join}
-use Rattle.rx_rules.specs.Code.{Block}
-use Rattle.rx_rules.specs.Terms.{Term, Vars}
-use Rattle.rx_rules.specs.Tree.{Tree}
-use Rattle.rx_rules.specs.Entries.{Allowed, made}
-use Rattle.rx_rules.specs.Fold.{AllAllowed}
-use Rattle.rx_rules.specs.Plays.{moves_from, started_by}
-use Rattle.rx_rules.specs.Order.{told, own_path}
 use Rattle.rx_laws.proofs.Paths.{Comes}
 use Rattle.rx_laws.proofs.TermOrder.{Todo}
 use Rattle.rx_laws.proofs.Says.{Goes, Passes, Said, said}

@@ -1,23 +1,14 @@
 -- The journals of a whole run keep the order of statements.
-use Rattle.std.specs.Prelude.{◌≡◌, ◌⊎◌, ℕ, zero, suc, ◌+◌, ◌<◌, ◌≤◌, true, List, [], ◌∷◌, length, Option, Some, None, slice_get, refl}
+use Rattle.std.proofs.Common.{◌≡◌, ◌⊎◌, ℕ, zero, suc, ◌+◌, ◌<◌, ◌≤◌, true, List, [], ◌∷◌, length, Option, Some, None, slice_get, refl, ap, sym, subst, ◌∙◌, arith, inl, inr, add-zero}
 use Rattle.std.specs.List.{filter_map}
-use Rattle.std.proofs.Common.{ap, sym, subst, ◌∙◌, arith, inl, inr, add-zero}
 use Rattle.std.proofs.lemmas.Bool.{eq-eqb, ne_eqb, cases_eq, cases_order}
-use Rattle.rx_base.specs.declared.ids.TaskId.{TaskId}
+use Rattle.rx_rules.proofs.Common.{TaskId, Block, Term, Empty, Vars, no_vars, items, Tree, made, AllAllowed, opening, Begins, Birth, EachPlays, birth_from, birth_of, travels, cell_of, journal_at, moves_from, IsStoreRun, State, after_cell, opening_state, AtHome, Given, IsRun, AllJournals, JournalOk, death_number, close_in, ClosesAt}
 use Rattle.rx_rules.specs.declared.entries.Entry.{Entry}
 use Rattle.rx_rules.specs.declared.entries.Entry.TheVariants.{Step, Root, Death, Join}
 use Rattle.rx_rules.specs.declared.events.Cell.{Cell}
 use Rattle.rx_rules.specs.declared.events.PlaceEvent.{PlaceEvent}
 use Rattle.rx_rules.specs.declared.events.PlaceEvent.TheVariants.{Done, Close}
-use Rattle.rx_rules.specs.Code.{Block}
-use Rattle.rx_rules.specs.Terms.{Term, Empty, Vars, no_vars, items}
-use Rattle.rx_rules.specs.Tree.{Tree}
-use Rattle.rx_rules.specs.Entries.{made}
-use Rattle.rx_rules.specs.Fold.{AllAllowed, opening}
-use Rattle.rx_rules.specs.Plays.{Begins, Birth, EachPlays, birth_from, birth_of, travels, cell_of, journal_at, moves_from}
 use Rattle.rx_rules.specs.Order.{OrderKept, JournalsInOrder}
-use Rattle.rx_rules.specs.Store.{IsStoreRun, State, after_cell, opening_state}
-use Rattle.rx_rules.specs.Run.{AtHome, Given, IsRun, AllJournals, JournalOk, death_number, close_in, ClosesAt}
 use Rattle.rx_sound.proofs.Births.{StartsOther, from-other}
 use Rattle.rx_laws.proofs.Paths.{Comes, comes-kept}
 use Rattle.rx_laws.proofs.TermOrder.{Todo}

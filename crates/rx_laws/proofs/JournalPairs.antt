@@ -1,13 +1,9 @@
 -- A relation that holds of each two statements of the events of a journal, the earlier first, if it follows from the order of
 -- words and holds of each one that a task begins and each one that another living task has still to begin then.
-use Rattle.std.specs.Prelude.{◌≡◌, ◌⊎◌, ℕ, suc, ◌+◌, ◌<◌, ◌≤◌, Bool, true, false, cond, not, ◌==◌, List, [], ◌∷◌, length, Some, None, is_some, slice_get, refl}
+use Rattle.std.proofs.Common.{◌≡◌, ◌⊎◌, ℕ, suc, ◌+◌, ◌<◌, ◌≤◌, Bool, true, false, cond, not, ◌==◌, List, [], ◌∷◌, length, Some, None, is_some, slice_get, refl, ap, sym, subst, ◌∙◌, arith, inl, inr}
 use Rattle.std.specs.List.{filter_map, cons_option}
-use Rattle.std.proofs.Common.{ap, sym, subst, ◌∙◌, arith, inl, inr}
 use Rattle.std.proofs.lemmas.Bool.{eq-eqb, ne_eqb, cases_order}
-use Rattle.rx_base.specs.declared.ids.PlaceId.{PlaceId}
-use Rattle.rx_base.specs.declared.ids.TaskId.{TaskId}
-use Rattle.rx_base.specs.declared.values.Fault.{Fault}
-use Rattle.rx_base.specs.declared.place_set.PlaceSet.{PlaceSet}
+use Rattle.rx_rules.proofs.Common.{PlaceId, TaskId, Fault, PlaceSet, Block, Term, Vars, Tree, death_of, the_root, AllowedAct, made, made_act, AllAllowed, births, Begins, Birth, birth_from, travels, cell_of, moves_from, started_by, NotFalling, death_number, close_in, ClosesAt, born_so_far}
 use Rattle.rx_base.proofs.Options.{none-of}
 use Rattle.rx_base.proofs.Elements.{get-within}
 use Rattle.rx_rules.specs.declared.entries.Act.{Act}
@@ -17,15 +13,7 @@ use Rattle.rx_rules.specs.declared.entries.Entry.TheVariants.{Step, Root, Death,
 use Rattle.rx_rules.specs.declared.events.Cell.{Cell}
 use Rattle.rx_rules.specs.declared.events.PlaceEvent.{PlaceEvent}
 use Rattle.rx_rules.specs.declared.events.PlaceEvent.TheVariants.{Done, Close}
-use Rattle.rx_rules.specs.Code.{Block}
-use Rattle.rx_rules.specs.Terms.{Term, Vars}
-use Rattle.rx_rules.specs.Tree.{Tree, death_of, the_root}
-use Rattle.rx_rules.specs.Entries.{AllowedAct, made, made_act}
-use Rattle.rx_rules.specs.Fold.{AllAllowed, births}
-use Rattle.rx_rules.specs.Plays.{Begins, Birth, birth_from, travels, cell_of, moves_from, started_by}
 use Rattle.rx_rules.specs.Order.{event_path}
-use Rattle.rx_rules.specs.Run.{NotFalling, death_number, close_in, ClosesAt}
-use Rattle.rx_rules.specs.Laws.{born_so_far}
 use Rattle.rx_rules.proofs.Lookups.{number-of}
 use Rattle.rx_sound.proofs.Births.{StartsOther, from-other, from-here, births-left}
 use Rattle.rx_laws.proofs.Paths.{Comes}

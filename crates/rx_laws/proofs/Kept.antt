@@ -1,20 +1,13 @@
 -- What every entry keeps of the open scopes, from which it follows that each waiter that holds an item of a living task is open.
-use Rattle.std.specs.Prelude.{◌≡◌, ◌⊎◌, ℕ, suc, ◌<◌, ◌≤◌, Bool, true, List, [], ◌∷◌, ◌++◌, map, filter, Some, None, refl}
-use Rattle.std.proofs.Common.{ap, sym, subst, ◌∙◌, arith, inl, inr}
+use Rattle.std.proofs.Common.{◌≡◌, ◌⊎◌, ℕ, suc, ◌<◌, ◌≤◌, Bool, true, List, [], ◌∷◌, ◌++◌, map, filter, Some, None, refl, ap, sym, subst, ◌∙◌, arith, inl, inr}
 use Rattle.std.proofs.lemmas.Bool.{eq-eqb, ne_eqb, cond_both}
-use Rattle.rx_base.specs.declared.ids.TaskId.{TaskId}
+use Rattle.rx_rules.proofs.Common.{TaskId, Block, Stmt, Finish, Term, Empty, items, Tree, task_of, inner, AllowedAct, made_act, opening, is_on, walk, links, born_so_far}
 use Rattle.rx_rules.specs.declared.tasks.Task.{Task}
 use Rattle.rx_rules.specs.declared.tasks.Scope.{Scope}
 use Rattle.rx_rules.specs.declared.entries.Act.{Act}
 use Rattle.rx_rules.specs.declared.entries.Act.TheVariants.{Open, At as Calling, Spawn, Arrive, Wait, Release, End, Print as Printed, Census as Counted}
 use Rattle.rx_rules.specs.declared.entries.Entry.{Entry}
 use Rattle.rx_rules.specs.declared.entries.Entry.TheVariants.{Step}
-use Rattle.rx_rules.specs.Code.{Block, Stmt, Finish}
-use Rattle.rx_rules.specs.Terms.{Term, Empty, items}
-use Rattle.rx_rules.specs.Tree.{Tree, task_of, inner}
-use Rattle.rx_rules.specs.Entries.{AllowedAct, made_act}
-use Rattle.rx_rules.specs.Fold.{opening}
-use Rattle.rx_rules.specs.Laws.{is_on, walk, links, born_so_far}
 use Rattle.rx_rules.proofs.Numbers.{scope-after_end}
 use Rattle.rx_rules.proofs.Lookups.{number-of}
 use Rattle.rx_laws.proofs.Straight.{code_at, is_waiter}

@@ -1,21 +1,11 @@
 -- An entry of a task keeps what is kept of the open scopes.
-use Rattle.std.specs.Prelude.{◌≡◌, ◌⊎◌, ℕ, suc, ◌<◌, ◌≤◌, Bool, true, false, cond, not, ◌==◌, List, [], ◌∷◌, ◌++◌, filter, Some, None, refl}
-use Rattle.std.proofs.Common.{ap, sym, subst, ◌∙◌, arith, inl, inr}
+use Rattle.std.proofs.Common.{◌≡◌, ◌⊎◌, ℕ, suc, ◌<◌, ◌≤◌, Bool, true, false, cond, not, ◌==◌, List, [], ◌∷◌, ◌++◌, filter, Some, None, refl, ap, sym, subst, ◌∙◌, arith, inl, inr}
 use Rattle.std.proofs.lemmas.Bool.{eq-eqb, or_left, or_right, false_from_ne_true, not_from_false, true≢false}
-use Rattle.rx_base.specs.declared.ids.TaskId.{TaskId}
-use Rattle.rx_base.specs.declared.ids.ScopeId.{ScopeId}
-use Rattle.rx_base.specs.declared.place_set.PlaceSet.{PlaceSet}
-use Rattle.rx_base.specs.declared.values.Fault.{Fault}
+use Rattle.rx_rules.proofs.Common.{TaskId, ScopeId, PlaceSet, Fault, Block, Stmt, Finish, Term, Vars, Tree, quiet, task_of, inner, AllowedAct, WorksIn, made_act, own_path, is_on, walk, links, born_so_far}
 use Rattle.rx_rules.specs.declared.entries.Act.{Act}
 use Rattle.rx_rules.specs.declared.entries.Act.TheVariants.{Release}
 use Rattle.rx_rules.specs.declared.entries.Entry.{Entry}
 use Rattle.rx_rules.specs.declared.entries.Entry.TheVariants.{Step}
-use Rattle.rx_rules.specs.Code.{Block, Stmt, Finish}
-use Rattle.rx_rules.specs.Terms.{Term, Vars}
-use Rattle.rx_rules.specs.Tree.{Tree, quiet, task_of, inner}
-use Rattle.rx_rules.specs.Entries.{AllowedAct, WorksIn, made_act}
-use Rattle.rx_rules.specs.Order.{own_path}
-use Rattle.rx_rules.specs.Laws.{is_on, walk, links, born_so_far}
 use Rattle.rx_laws.proofs.Straight.{code_at, is_waiter}
 use Rattle.rx_laws.proofs.Paths.{Starts, Comes, starts-same, starts-trans, starts-not_below, comes-other}
 use Rattle.rx_laws.proofs.Lines.{bones, nums, line}

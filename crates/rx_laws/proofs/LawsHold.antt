@@ -1,21 +1,15 @@
 -- Histories whose entries are allowed have no early release, and their releases name exactly the losses.
-use Rattle.std.specs.Prelude.{◌≡◌, ℕ, suc, ◌≤◌, Bool, true, false, not, ◌&&◌, ◌||◌, ◌==◌, List, [], ◌∷◌, Option, Some, None, is_some, is_none, option_map, refl}
+use Rattle.std.proofs.Common.{◌≡◌, ℕ, suc, ◌≤◌, Bool, true, false, not, ◌&&◌, ◌||◌, ◌==◌, List, [], ◌∷◌, Option, Some, None, is_some, is_none, option_map, refl, ap, sym, subst, ◌∙◌, arith, inl, inr}
 use Rattle.std.specs.List.{list_any, list_all}
-use Rattle.std.proofs.Common.{ap, sym, subst, ◌∙◌, arith, inl, inr}
 use Rattle.std.proofs.Math.Bool.{and-false, and-true}
 use Rattle.std.proofs.lemmas.Bool.{eqb-true, ne_eqb, or_parts, or_cases, or_left, or_right, or_from, and_from, cond_both, true≢false, not-true, not_from_false}
 use Rattle.std.proofs.lemmas.List.{get_or-replicate}
 use Rattle.std.proofs.lemmas.List.Elements.{filter_agree}
-use Rattle.rx_base.specs.declared.place_set.PlaceSet.{PlaceSet}
-use Rattle.rx_base.specs.declared.ids.ScopeId.{ScopeId}
-use Rattle.rx_base.specs.Sets.{all_places, members}
+use Rattle.rx_rules.proofs.Common.{PlaceSet, ScopeId, all_places, members, Tree, is_under, quiet, the_root, Allowed, made, was_lost_at, lost_under, opening, AllAllowed, TaskBirth, is_on, until, born_so_far}
 use Rattle.rx_rules.specs.declared.entries.Act.TheVariants.{Open, At as Calls, Spawn, Arrive, Wait, Release, End, Print, Census}
 use Rattle.rx_rules.specs.declared.entries.Entry.{Entry}
 use Rattle.rx_rules.specs.declared.entries.Entry.TheVariants.{Step, Root, Death, Join}
-use Rattle.rx_rules.specs.Tree.{Tree, is_under, quiet, the_root}
-use Rattle.rx_rules.specs.Entries.{Allowed, made, was_lost_at, lost_under}
-use Rattle.rx_rules.specs.Fold.{opening, AllAllowed}
-use Rattle.rx_rules.specs.Laws.{TaskBirth, is_on, until, born_so_far, AtRelease, EachRelease, AllOver, NamesLost, NoEarlyRelease, LossExact, is_named}
+use Rattle.rx_rules.specs.Laws.{AtRelease, EachRelease, AllOver, NamesLost, NoEarlyRelease, LossExact, is_named}
 use Rattle.rx_laws.proofs.Lines.{Bone, bones, nums, line, on_chain-line}
 use Rattle.rx_laws.proofs.Aligned.{Facts, facts, blow_place, IsRow, IsOut, ended, gone, Aligned, none, out, row}
 use Rattle.rx_laws.proofs.Ties.{Tied, ScopeOk}

@@ -1,11 +1,7 @@
 -- Items that lie in a waiter: a step brings none into it that was not there, but for the statement that a request begins.
-use Rattle.std.specs.Prelude.{◌≡◌, ◌⊎◌, ℕ, true, List, [], ◌∷◌, ◌++◌, Some, refl}
-use Rattle.std.proofs.Common.{ap, sym, subst, ◌∙◌, inl, inr}
+use Rattle.std.proofs.Common.{◌≡◌, ◌⊎◌, ℕ, true, List, [], ◌∷◌, ◌++◌, Some, refl, ap, sym, subst, ◌∙◌, inl, inr}
 use Rattle.std.proofs.lemmas.Bool.{true≢false}
-use Rattle.rx_base.specs.declared.values.Fault.{Fault}
-use Rattle.rx_rules.specs.Code.{Block, Stmt, SetTo, New, Get, Put, Forget, Census, Print, Throw, Async, AtAsync, At, Finish, If, Repeat, Try}
-use Rattle.rx_rules.specs.Terms.{Term, Empty, Run, Raise, Turns, Trying, Body, Held, at, begins, granted, stmt_granted, body_granted, or_raise, child, stmt_child}
-use Rattle.rx_rules.specs.Order.{is_kept}
+use Rattle.rx_rules.proofs.Common.{Fault, Block, Stmt, SetTo, New, Get, Put, Forget, Census, Print, Throw, Async, AtAsync, At, Finish, If, Repeat, Try, Term, Empty, Run, Raise, Turns, Trying, Body, Held, at, begins, granted, stmt_granted, body_granted, or_raise, child, stmt_child, is_kept}
 use Rattle.rx_laws.proofs.Straight.{code_at, stmt_at, is_waiter}
 use Rattle.rx_laws.proofs.Paths.{Starts, left_over, starts-cut}
 use Rattle.rx_laws.proofs.TermCode.{Coded, code-on}

@@ -1,13 +1,9 @@
 -- Scopes as numbers with parents, and the chains in them.
-use Rattle.std.specs.Prelude.{◌≡◌, ℕ, ◌<◌, ◌≤◌, Bool, true, false, cond, not, ◌&&◌, ◌||◌, ◌==◌, List, [], ◌∷◌, ◌++◌, map, filter, Option, Some, None, option_map, refl}
+use Rattle.std.proofs.Common.{◌≡◌, ℕ, ◌<◌, ◌≤◌, Bool, true, false, cond, not, ◌&&◌, ◌||◌, ◌==◌, List, [], ◌∷◌, ◌++◌, map, filter, Option, Some, None, option_map, refl, ap, sym, subst, ◌∙◌, arith, inl, inr}
 use Rattle.std.specs.List.{list_any, list_all, find}
-use Rattle.std.proofs.Common.{ap, sym, subst, ◌∙◌, arith, inl, inr}
 use Rattle.std.proofs.lemmas.Bool.{eqb-true, eq-eqb, ne_eqb, or_parts, or_cases, or_left, or_right, and_parts, cond_both, true≢false}
 use Rattle.std.proofs.lemmas.List.Folds.{list_any-append}
-use Rattle.rx_base.specs.declared.ids.ScopeId.{ScopeId}
-use Rattle.rx_rules.specs.Tree.{Tree, is_finish, chain_in, wants, on_chain, is_scope}
-use Rattle.rx_rules.specs.Entries.{change_first}
-use Rattle.rx_rules.specs.Laws.{is_on, until}
+use Rattle.rx_rules.proofs.Common.{ScopeId, Tree, is_finish, chain_in, wants, on_chain, is_scope, change_first, is_on, until}
 use Rattle.rx_rules.specs.declared.tasks.Scope.{Scope}
 
 pub record Bone : Type 0 where

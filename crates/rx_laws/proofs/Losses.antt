@@ -1,15 +1,11 @@
 -- Deaths and releases, on the rows beside the births.
-use Rattle.std.specs.Prelude.{◌≡◌, ℕ, Bool, true, false, cond, not, ◌&&◌, ◌||◌, ◌==◌, List, [], ◌∷◌, map, filter, Option, Some, None, is_some, is_none, option_map, refl, ◌⊎◌}
+use Rattle.std.proofs.Common.{◌≡◌, ℕ, Bool, true, false, cond, not, ◌&&◌, ◌||◌, ◌==◌, List, [], ◌∷◌, map, filter, Option, Some, None, is_some, is_none, option_map, refl, ◌⊎◌, ap, sym, subst, ◌∙◌, inl, inr}
 use Rattle.std.specs.Option.{option_or}
 use Rattle.std.specs.List.{list_any}
-use Rattle.std.proofs.Common.{ap, sym, subst, ◌∙◌, inl, inr}
 use Rattle.std.proofs.lemmas.Bool.{eqb-true, eq-eqb, ne_eqb, or_parts, or_cases, or_left, or_right, true≢false, not-true, not_from_false}
-use Rattle.rx_base.specs.declared.ids.PlaceId.{PlaceId}
+use Rattle.rx_rules.proofs.Common.{PlaceId, is_hit, hit as hit_row, TaskBirth, is_on, until}
 use Rattle.rx_rules.specs.declared.tasks.Where.{Where}
 use Rattle.rx_rules.specs.declared.tasks.Where.TheVariants.{At, Travel}
-use Rattle.rx_rules.specs.Entries.{is_hit}
-use Rattle.rx_rules.specs.Entries.{hit as hit_row}
-use Rattle.rx_rules.specs.Laws.{TaskBirth, is_on, until}
 use Rattle.rx_laws.proofs.Lines.{Bone, nums, line, Falls, has-filter, before_on}
 use Rattle.rx_laws.proofs.Aligned.{Facts, IsWhere, has_moved, blow_place, IsRow, IsOut, ended, gone, Aligned, none, out, row, BirthsOk}
 use Rattle.rx_rules.specs.declared.tasks.Task.{Task}

@@ -1,22 +1,14 @@
 -- Each entry that is allowed keeps what ties the tree to the entries.
-use Rattle.std.specs.Prelude.{◌≡◌, ℕ, suc, ◌<◌, ◌≤◌, Bool, true, false, cond, not, ◌&&◌, ◌||◌, ◌==◌, List, [], ◌∷◌, ◌++◌, map, filter, Option, Some, None, is_some, is_none, option_map, refl}
+use Rattle.std.proofs.Common.{◌≡◌, ℕ, suc, ◌<◌, ◌≤◌, Bool, true, false, cond, not, ◌&&◌, ◌||◌, ◌==◌, List, [], ◌∷◌, ◌++◌, map, filter, Option, Some, None, is_some, is_none, option_map, refl, ap, sym, subst, ◌∙◌, arith}
 use Rattle.std.specs.List.{list_any, find}
-use Rattle.std.proofs.Common.{ap, sym, subst, ◌∙◌, arith}
 use Rattle.std.proofs.lemmas.Bool.{eqb-true, eq-eqb, or_left, or_right, not-true}
 use Rattle.std.proofs.lemmas.List.Elements.{filter_agree}
-use Rattle.rx_base.specs.declared.values.Fault.{Fault}
-use Rattle.rx_base.specs.declared.place_set.PlaceSet.{PlaceSet}
-use Rattle.rx_base.specs.declared.ids.PlaceId.{PlaceId}
-use Rattle.rx_base.specs.declared.ids.TaskId.{TaskId}
-use Rattle.rx_base.specs.declared.ids.ScopeId.{ScopeId}
+use Rattle.rx_rules.proofs.Common.{Fault, PlaceSet, PlaceId, TaskId, ScopeId, Tree, is_task, is_finish, task_of, scope_of, own_scope, inner, governs, chain_in, on_chain, is_under, quiet, death_of, the_root, is_scope, change_first, change_scope, born, waiting, resumed, without, after_end, made, Allowed, WorksIn, TaskBirth, is_on, is_born, born_so_far, hit_at, has_landed, has_ended}
 use Rattle.rx_base.proofs.Elements.{find-passes}
 use Rattle.rx_rules.specs.declared.tasks.Where.TheVariants.{At, Travel}
 use Rattle.rx_rules.specs.declared.entries.Act.TheVariants.{Open, At as Calls, Spawn, Arrive, Wait, Release, End, Print, Census}
 use Rattle.rx_rules.specs.declared.entries.Entry.{Entry}
 use Rattle.rx_rules.specs.declared.entries.Entry.TheVariants.{Step, Root, Death, Join}
-use Rattle.rx_rules.specs.Tree.{Tree, is_task, is_finish, task_of, scope_of, own_scope, inner, governs, chain_in, on_chain, is_under, quiet, death_of, the_root, is_scope}
-use Rattle.rx_rules.specs.Entries.{change_first, change_scope, born, waiting, resumed, without, after_end, made, Allowed, WorksIn}
-use Rattle.rx_rules.specs.Laws.{TaskBirth, is_on, is_born, born_so_far, hit_at, has_landed, has_ended}
 use Rattle.rx_laws.proofs.Lines.{Bone, bone, bones, nums, line, has_finish, line-in, find-stands, chain-bones, on_chain-line, bones-change, bones-filter}
 use Rattle.rx_laws.proofs.Aligned.{Facts, facts, IsWhere, blow_place, IsRow, found, aligned-change, ended_too, is_other}
 use Rattle.rx_laws.proofs.Losses.{is_off, left_of, released_too}

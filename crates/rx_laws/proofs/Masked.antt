@@ -1,14 +1,8 @@
 -- A release that masks faults names lost places.
-use Rattle.std.specs.Prelude.{◌≡◌, ◌≢◌, ℕ, zero, suc, ◌<◌, ◌≤◌, min, Bool, true, false, cond, not, ◌||◌, ◌&&◌, List, [], ◌∷◌, ◌++◌, length, filter, sum_by, slice_get, Option, Some, None, option_map, slice_index_or, All, refl}
+use Rattle.std.proofs.Common.{◌≡◌, ◌≢◌, ℕ, zero, suc, ◌<◌, ◌≤◌, min, Bool, true, false, cond, not, ◌||◌, ◌&&◌, List, [], ◌∷◌, ◌++◌, length, filter, sum_by, slice_get, Option, Some, None, option_map, slice_index_or, All, refl, sym, ap, ◌∙◌, subst, arith}
 use Rattle.std.specs.List.{find, list_any}
-use Rattle.std.proofs.Common.{sym, ap, ◌∙◌, subst, arith}
 use Rattle.std.proofs.lemmas.Bool.{eqb-true, eq-eqb, true≢false, or_right, or_from, and_parts, false_from_ne_true}
-use Rattle.rx_base.specs.declared.ids.PlaceId.{PlaceId}
-use Rattle.rx_base.specs.declared.ids.TaskId.{TaskId}
-use Rattle.rx_base.specs.declared.ids.ScopeId.{ScopeId}
-use Rattle.rx_base.specs.declared.place_set.PlaceSet.{PlaceSet}
-use Rattle.rx_base.specs.declared.values.Fault.{Fault}
-use Rattle.rx_base.specs.Sets.{all_places, members}
+use Rattle.rx_rules.proofs.Common.{PlaceId, TaskId, ScopeId, PlaceSet, Fault, all_places, members, Tree, is_task, is_scope, opened_by, on_chain, is_under, quiet, the_root, was_lost_at, lost_under, masked_under, WorksIn, MayFree, Allowed, made, opening, AllAllowed, Reached, IsOlder, opens}
 use Rattle.rx_base.proofs.Members.{place-at}
 use Rattle.rx_rules.specs.declared.tasks.Where.TheVariants.{At}
 use Rattle.rx_rules.specs.declared.tasks.Blow.{Blow}
@@ -17,10 +11,6 @@ use Rattle.rx_rules.specs.declared.tasks.Scope.{Scope}
 use Rattle.rx_rules.specs.declared.entries.Act.TheVariants.{Open, At as Calls, Spawn, Arrive, Wait, Release, End, Print, Census}
 use Rattle.rx_rules.specs.declared.entries.Entry.{Entry}
 use Rattle.rx_rules.specs.declared.entries.Entry.TheVariants.{Step, Root, Death, Join}
-use Rattle.rx_rules.specs.Tree.{Tree, is_task, is_scope, opened_by, on_chain, is_under, quiet, the_root}
-use Rattle.rx_rules.specs.Entries.{was_lost_at, lost_under, masked_under, WorksIn, MayFree, Allowed, made}
-use Rattle.rx_rules.specs.Fold.{opening, AllAllowed}
-use Rattle.rx_rules.specs.Reached.{Reached, IsOlder, opens}
 use Rattle.rx_rules.specs.Inversions.{MaskedMeansLost, MaskedIsLost}
 use Rattle.rx_sound.specs.Blows.{death_blow, blow_at}
 use Rattle.rx_sound.specs.Chains.{meets, HasOpener, Opened, Falls}

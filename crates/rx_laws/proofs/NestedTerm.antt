@@ -1,10 +1,7 @@
 -- The scopes that a task has open, in its term: the paths of their statements, the outermost first.
-use Rattle.std.specs.Prelude.{◌≡◌, ℕ, suc, Bool, true, false, cond, List, [], ◌∷◌, ◌++◌, Some, refl, nat_le}
-use Rattle.std.proofs.Common.{subst, inl, inr}
+use Rattle.std.proofs.Common.{◌≡◌, ℕ, suc, Bool, true, false, cond, List, [], ◌∷◌, ◌++◌, Some, refl, nat_le, subst, inl, inr}
 use Rattle.std.proofs.lemmas.Bool.{cond_both}
-use Rattle.rx_base.specs.declared.values.Fault.{Fault}
-use Rattle.rx_rules.specs.Code.{Block, Nothing, Then, Stmt, SetTo, New, Get, Put, Forget, Census, Print, Throw, Async, AtAsync, At, Finish, If, Repeat, Try}
-use Rattle.rx_rules.specs.Terms.{Term, Empty, Run, Raise, Turns, Trying, Body, Held, Vars, Does, Local, Makes, Gets, Puts, Forgets, Opens, Calls, Spawns, Waits, Releases, Prints, Counts, Done, at, items_from, items, does, stmt_does, trying_does, body_does, begins, granted, stmt_granted, body_granted, eval, target_of, is_zero, catches, replaced, after_it}
+use Rattle.rx_rules.proofs.Common.{Fault, Block, Nothing, Then, Stmt, SetTo, New, Get, Put, Forget, Census, Print, Throw, Async, AtAsync, At, Finish, If, Repeat, Try, Term, Empty, Run, Raise, Turns, Trying, Body, Held, Vars, Does, Local, Makes, Gets, Puts, Forgets, Opens, Calls, Spawns, Waits, Releases, Prints, Counts, Done, at, items_from, items, does, stmt_does, trying_does, body_does, begins, granted, stmt_granted, body_granted, eval, target_of, is_zero, catches, replaced, after_it}
 use Rattle.rx_laws.proofs.Paths.{Starts}
 use Rattle.rx_laws.proofs.TermOrder.{Todo, Later, Sorted, Shrinks, Moved, IfLocal, items-todo, begins-todo, local-number, local-place, local-ref, local-within, local-moved, fine-moved, fails-moved, granted-moved, in-at}
 

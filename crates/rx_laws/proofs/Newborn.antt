@@ -1,18 +1,11 @@
 -- The births of a history, by the number of the entry.
-use Rattle.std.specs.Prelude.{◌≡◌, ℕ, suc, ◌+◌, ◌<◌, ◌≤◌, true, ◌==◌, List, [], ◌∷◌, Some, None, refl}
-use Rattle.std.proofs.Common.{ap, sym, subst, ◌∙◌, arith, inl, inr}
+use Rattle.std.proofs.Common.{◌≡◌, ℕ, suc, ◌+◌, ◌<◌, ◌≤◌, true, ◌==◌, List, [], ◌∷◌, Some, None, refl, ap, sym, subst, ◌∙◌, arith, inl, inr}
 use Rattle.std.proofs.lemmas.Bool.{eq-eqb, ne_eqb, cases_eq}
-use Rattle.rx_base.specs.declared.ids.PlaceId.{PlaceId}
-use Rattle.rx_base.specs.declared.ids.TaskId.{TaskId}
+use Rattle.rx_rules.proofs.Common.{PlaceId, TaskId, Tree, death_of, AllowedAct, made, made_act, AllAllowed, births, Birth, birth_in, birth_from, started_by, born_so_far}
 use Rattle.rx_rules.specs.declared.entries.Act.{Act}
 use Rattle.rx_rules.specs.declared.entries.Act.TheVariants.{Open, At as Calling, Spawn, Arrive, Wait, Release, End, Print as Printed, Census as Counted}
 use Rattle.rx_rules.specs.declared.entries.Entry.{Entry}
 use Rattle.rx_rules.specs.declared.entries.Entry.TheVariants.{Step, Root, Death, Join}
-use Rattle.rx_rules.specs.Tree.{Tree, death_of}
-use Rattle.rx_rules.specs.Entries.{AllowedAct, made, made_act}
-use Rattle.rx_rules.specs.Fold.{AllAllowed, births}
-use Rattle.rx_rules.specs.Plays.{Birth, birth_in, birth_from, started_by}
-use Rattle.rx_rules.specs.Laws.{born_so_far}
 use Rattle.rx_sound.proofs.Births.{StartsOther, from-other, from-here, births-left}
 use Rattle.rx_laws.proofs.Rows.{to_in}
 use Rattle.rx_laws.proofs.ToldPairs.{Starting, starts_none, starts_one, starting}

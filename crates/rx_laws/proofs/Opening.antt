@@ -1,11 +1,8 @@
 -- A `finish` that a term begins is opened by no other act.
-use Rattle.std.specs.Prelude.{◌≡◌, ℕ, Bool, true, false, List, Some, refl}
-use Rattle.std.proofs.Common.{ap, sym, subst, ◌∙◌}
-use Rattle.rx_base.specs.declared.ids.PlaceId.{PlaceId}
+use Rattle.std.proofs.Common.{◌≡◌, ℕ, Bool, true, false, List, Some, refl, ap, sym, subst, ◌∙◌}
+use Rattle.rx_rules.proofs.Common.{PlaceId, Block, Finish, Term, Empty, Run, Raise, Turns, Trying, Body, Held, Vars, Does, Opens, begins, does, stmt_does, trying_does, body_does, within}
 use Rattle.rx_rules.specs.declared.entries.Act.{Act}
 use Rattle.rx_rules.specs.declared.entries.Act.TheVariants.{Open, At as Calling, Spawn, Arrive, Wait, Release, End, Print as Printed, Census as Counted}
-use Rattle.rx_rules.specs.Code.{Block, Finish}
-use Rattle.rx_rules.specs.Terms.{Term, Empty, Run, Raise, Turns, Trying, Body, Held, Vars, Does, Opens, begins, does, stmt_does, trying_does, body_does, within}
 use Rattle.rx_rules.specs.Plays.{Fits}
 use Rattle.rx_laws.proofs.Straight.{code_at}
 use Rattle.rx_laws.proofs.TermCode.{Coded}

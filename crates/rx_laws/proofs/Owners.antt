@@ -1,20 +1,13 @@
 -- Scopes as numbers with openers, and what each act makes of them.
-use Rattle.std.specs.Prelude.{◌≡◌, ℕ, Bool, true, false, cond, not, ◌==◌, List, [], ◌∷◌, ◌++◌, map, filter, Option, Some, None, option_map, refl}
+use Rattle.std.proofs.Common.{◌≡◌, ℕ, Bool, true, false, cond, not, ◌==◌, List, [], ◌∷◌, ◌++◌, map, filter, Option, Some, None, option_map, refl, ap, sym, ◌∙◌, inl, inr}
 use Rattle.std.specs.List.{find}
-use Rattle.std.proofs.Common.{ap, sym, ◌∙◌, inl, inr}
 use Rattle.std.proofs.lemmas.Bool.{or_cases, or_left, or_right, cond_both}
 use Rattle.std.proofs.lemmas.List.Elements.{filter_agree}
-use Rattle.rx_base.specs.declared.ids.TaskId.{TaskId}
-use Rattle.rx_base.specs.declared.ids.ScopeId.{ScopeId}
-use Rattle.rx_base.specs.declared.place_set.PlaceSet.{PlaceSet}
-use Rattle.rx_base.specs.declared.values.Fault.{Fault}
+use Rattle.rx_rules.proofs.Common.{TaskId, ScopeId, PlaceSet, Fault, Tree, is_finish, is_task, task_of, opened_by, own_scope, inner, on_chain, is_scope, AllowedAct, made_act, after_end, change_first, change_scope, without, is_on}
 use Rattle.rx_rules.specs.declared.tasks.Task.{Task}
 use Rattle.rx_rules.specs.declared.tasks.Scope.{Scope}
 use Rattle.rx_rules.specs.declared.entries.Act.{Act}
 use Rattle.rx_rules.specs.declared.entries.Act.TheVariants.{Open, At as Calling, Spawn, Arrive, Wait, Release, End, Print as Printed, Census as Counted}
-use Rattle.rx_rules.specs.Tree.{Tree, is_finish, is_task, task_of, opened_by, own_scope, inner, on_chain, is_scope}
-use Rattle.rx_rules.specs.Entries.{AllowedAct, made_act, after_end, change_first, change_scope, without}
-use Rattle.rx_rules.specs.Laws.{is_on}
 use Rattle.rx_laws.proofs.Lines.{bone, bones, nums, on_chain-line}
 use Rattle.rx_laws.proofs.Losses.{is_off}
 use Rattle.rx_laws.proofs.Opening.{is_opening}

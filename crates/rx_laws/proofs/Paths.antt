@@ -1,10 +1,7 @@
 -- Paths: one begins another, one lies below another, one comes before another in the order of words.
-use Rattle.std.specs.Prelude.{◌≡◌, ◌⊎◌, ℕ, zero, suc, ◌<◌, Bool, true, false, cond, ◌==◌, nat_lt, List, [], ◌∷◌, refl, ◌++◌}
-use Rattle.std.proofs.Common.{ap, sym, subst, ◌∙◌, arith, inl, inr}
+use Rattle.std.proofs.Common.{◌≡◌, ◌⊎◌, ℕ, zero, suc, ◌<◌, Bool, true, false, cond, ◌==◌, nat_lt, List, [], ◌∷◌, refl, ◌++◌, ap, sym, subst, ◌∙◌, arith, inl, inr}
 use Rattle.std.proofs.lemmas.Bool.{eqb-true, ltb-true, true≢false, false_from_ne_true}
-use Rattle.rx_rules.specs.Code.{Stmt, SetTo, New, Get, Put, Forget, Census, Print, Throw, Async, AtAsync, At, Finish, If, Repeat, Try, Block, Nothing, Then}
-use Rattle.rx_rules.specs.Terms.{at}
-use Rattle.rx_rules.specs.Order.{is_kept_in, before_inside, is_before_in, comes_before}
+use Rattle.rx_rules.proofs.Common.{Stmt, SetTo, New, Get, Put, Forget, Census, Print, Throw, Async, AtAsync, At, Finish, If, Repeat, Try, Block, Nothing, Then, at, is_kept_in, before_inside, is_before_in, comes_before}
 
 -- y begins with x
 abbrev pub Starts : List ℕ → List ℕ → Type 0

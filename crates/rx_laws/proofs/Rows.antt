@@ -1,17 +1,12 @@
 -- Rows of living tasks, the scopes that they hang under, and their chains.
-use Rattle.std.specs.Prelude.{◌≡◌, ◌⊎◌, ℕ, ◌<◌, Bool, true, false, cond, ◌&&◌, ◌||◌, ◌==◌, List, [], ◌∷◌, ◌++◌, filter, Some, is_none, refl}
+use Rattle.std.proofs.Common.{◌≡◌, ◌⊎◌, ℕ, ◌<◌, Bool, true, false, cond, ◌&&◌, ◌||◌, ◌==◌, List, [], ◌∷◌, ◌++◌, filter, Some, is_none, refl, ap, sym, subst, ◌∙◌, arith, inl, inr}
 use Rattle.std.specs.List.{list_any, find}
-use Rattle.std.proofs.Common.{ap, sym, subst, ◌∙◌, arith, inl, inr}
 use Rattle.std.proofs.lemmas.Bool.{eqb-true, eq-eqb, ne_eqb, or_parts, or_cases, or_left, or_right, or_from, and_parts, not-true, true≢false}
 use Rattle.std.proofs.lemmas.List.Folds.{list_any-append}
-use Rattle.rx_base.specs.declared.ids.TaskId.{TaskId}
-use Rattle.rx_base.specs.declared.ids.ScopeId.{ScopeId}
-use Rattle.rx_base.specs.declared.ids.PlaceId.{PlaceId}
+use Rattle.rx_rules.proofs.Common.{TaskId, ScopeId, PlaceId, Tree, is_task, task_of, is_under, quiet, TaskBirth, is_on, walk, links, born_so_far, is_born}
 use Rattle.rx_rules.specs.declared.tasks.Where.TheVariants.{Travel}
 use Rattle.rx_rules.specs.declared.tasks.Task.{Task}
 use Rattle.rx_rules.specs.declared.entries.Entry.{Entry}
-use Rattle.rx_rules.specs.Tree.{Tree, is_task, task_of, is_under, quiet}
-use Rattle.rx_rules.specs.Laws.{TaskBirth, is_on, walk, links, born_so_far, is_born}
 use Rattle.rx_rules.proofs.Lookups.{number-of}
 use Rattle.rx_laws.proofs.Lines.{Bone, bones, nums, line, has-below, on_chain-line}
 use Rattle.rx_laws.proofs.Aligned.{Facts, facts, IsWhere, has_moved, IsRow, Aligned, none, out, row, BirthsOk}

@@ -1,21 +1,13 @@
 -- What an entry of a task tells, and what the task and the one that it starts have left.
-use Rattle.rx_base.specs.declared.place_set.PlaceSet.{PlaceSet}
-use Rattle.rx_base.specs.declared.ids.ScopeId.{ScopeId}
+use Rattle.rx_rules.proofs.Common.{PlaceSet, ScopeId, PlaceId, TaskId, Fault, Block, Stmt, SetTo, New, Get, Put, Forget, Census as Counts, Print as Prints, Throw, Async, AtAsync, At, Finish, If, Repeat, Try, Term, Empty, Raise, Run, Turns, Trying, Body, Held, Does, Local, Makes, Gets, Puts, Forgets, Opens, Calls as Asks, Spawns, Waits, Releases, Prints as Printing, Counts as Counting, Done, Vars, at, does, begins, granted, stmt_granted, child, stmt_child, within, trying_does, body_does, stmt_does, Plays, stops, Begins, StartsSo, brought, started_by, own_path}
 use Rattle.rx_laws.proofs.Heads.{Head}
 use Rattle.rx_laws.proofs.Opening.{is_opening, finish-opens, fits-opening}
-use Rattle.std.specs.Prelude.{◌≤◌, ◌≡◌, false, ◌⊎◌, ℕ, suc, Bool, true, List, [], ◌∷◌, ◌++◌, Some, None, slice_get, refl}
-use Rattle.std.proofs.Common.{ap, sym, subst, ◌∙◌, arith, inl, inr, append-nil}
+use Rattle.std.proofs.Common.{◌≤◌, ◌≡◌, false, ◌⊎◌, ℕ, suc, Bool, true, List, [], ◌∷◌, ◌++◌, Some, None, slice_get, refl, ap, sym, subst, ◌∙◌, arith, inl, inr, append-nil}
 use Rattle.std.proofs.lemmas.Option.{same_Some}
-use Rattle.rx_base.specs.declared.ids.PlaceId.{PlaceId}
-use Rattle.rx_base.specs.declared.ids.TaskId.{TaskId}
-use Rattle.rx_base.specs.declared.values.Fault.{Fault}
 use Rattle.rx_rules.specs.declared.events.Cell.{Cell}
 use Rattle.rx_rules.specs.declared.entries.Act.{Act}
 use Rattle.rx_rules.specs.declared.entries.Act.TheVariants.{Open, At as Calls, Spawn, Arrive, Wait, Release, Print, Census, End}
-use Rattle.rx_rules.specs.Code.{Block, Stmt, SetTo, New, Get, Put, Forget, Census as Counts, Print as Prints, Throw, Async, AtAsync, At, Finish, If, Repeat, Try}
-use Rattle.rx_rules.specs.Terms.{Term, Empty, Raise, Run, Turns, Trying, Body, Held, Does, Local, Makes, Gets, Puts, Forgets, Opens, Calls as Asks, Spawns, Waits, Releases, Prints as Printing, Counts as Counting, Done, Vars, at, does, begins, granted, stmt_granted, child, stmt_child, within, trying_does, body_does, stmt_does}
-use Rattle.rx_rules.specs.Plays.{Plays, stops, Begins, Fits, StartsSo, brought, started_by}
-use Rattle.rx_rules.specs.Order.{own_path}
+use Rattle.rx_rules.specs.Plays.{Fits}
 use Rattle.rx_laws.proofs.Paths.{Starts, Below, Comes, starts-at, starts-trans, below-at, starts-below, below-starts, starts-not_below}
 use Rattle.rx_laws.proofs.TermOrder.{Todo, Later, Sorted, Shrinks, begins-todo, todo-starts, granted-moved, child-born}
 use Rattle.rx_laws.proofs.Straight.{code_at, comes_ahead, is_waiter}

@@ -1,19 +1,12 @@
 -- The scopes that a task has opened and not released, as the entries tell: the paths of their statements, the newest first.
-use Rattle.std.specs.Prelude.{◌≡◌, ◌⊎◌, ℕ, ℤ, Bool, true, false, cond, ◌==◌, List, [], ◌∷◌, ◌++◌, Option, Some, None, Result, Ok, Err, refl}
-use Rattle.std.proofs.Common.{ap, sym, subst, ◌∙◌, arith, inl, inr}
+use Rattle.std.proofs.Common.{◌≡◌, ◌⊎◌, ℕ, ℤ, Bool, true, false, cond, ◌==◌, List, [], ◌∷◌, ◌++◌, Option, Some, None, Result, Ok, Err, refl, ap, sym, subst, ◌∙◌, arith, inl, inr}
 use Rattle.std.proofs.lemmas.Bool.{true≢false}
-use Rattle.rx_base.specs.declared.ids.PlaceId.{PlaceId}
-use Rattle.rx_base.specs.declared.ids.ScopeId.{ScopeId}
-use Rattle.rx_base.specs.declared.place_set.PlaceSet.{PlaceSet}
-use Rattle.rx_base.specs.declared.values.Fault.{Fault}
+use Rattle.rx_rules.proofs.Common.{PlaceId, ScopeId, PlaceSet, Fault, Block, Stmt, SetTo, New, Get, Put, Forget, Census, Print, Throw, Async, AtAsync, At, Finish, If, Repeat, Try, begins, Term, at, Empty, Run, Raise, Turns, Trying, Body, Held, Vars, Does, Local, Makes, Gets, Puts, Forgets, Opens, Calls, Spawns, Waits, Releases, Prints, Counts, Done, does, stmt_does, within, with_number, with_place, granted, child, stmt_child, eval, target_of, ref_in, value_of, brought, own_path}
 use Rattle.rx_rules.specs.declared.entries.Act.{Act}
 use Rattle.rx_rules.specs.declared.entries.Act.TheVariants.{Open, At as Calling, Spawn, Arrive, Wait, Release, End, Print as Printed, Census as Counted}
 use Rattle.rx_rules.specs.declared.entries.Entry.{Entry}
 use Rattle.rx_rules.specs.declared.entries.Entry.TheVariants.{Step, Root, Death, Join}
-use Rattle.rx_rules.specs.Code.{Block, Stmt, SetTo, New, Get, Put, Forget, Census, Print, Throw, Async, AtAsync, At, Finish, If, Repeat, Try}
-use Rattle.rx_rules.specs.Terms.{begins, Term, at, Empty, Run, Raise, Turns, Trying, Body, Held, Vars, Does, Local, Makes, Gets, Puts, Forgets, Opens, Calls, Spawns, Waits, Releases, Prints, Counts, Done, does, stmt_does, within, with_number, with_place, granted, child, stmt_child, eval, target_of, ref_in, value_of}
-use Rattle.rx_rules.specs.Plays.{Fits, brought}
-use Rattle.rx_rules.specs.Order.{own_path}
+use Rattle.rx_rules.specs.Plays.{Fits}
 use Rattle.rx_laws.proofs.Paths.{Starts, starts-trans, starts-at, starts-below, below-starts, below-at}
 use Rattle.rx_laws.proofs.TermOrder.{Later, Sorted, granted-moved}
 use Rattle.rx_laws.proofs.NestedTerm.{Nested, from-parts, EachStarts, opens_one, grown, granted-nested, items-nested}

@@ -1,20 +1,11 @@
 -- Each waiter that holds an item of a living task is open: this gives `Covered`, and an entry keeps it where what was open stays so.
-use Rattle.std.specs.Prelude.{◌≡◌, ◌⊎◌, ℕ, ◌<◌, Bool, true, false, List, [], ◌∷◌, Some, refl}
-use Rattle.std.proofs.Common.{sym, subst, inl, inr}
+use Rattle.std.proofs.Common.{◌≡◌, ◌⊎◌, ℕ, ◌<◌, Bool, true, false, List, [], ◌∷◌, Some, refl, sym, subst, inl, inr}
 use Rattle.std.proofs.lemmas.Bool.{true≢false}
-use Rattle.rx_base.specs.declared.ids.TaskId.{TaskId}
-use Rattle.rx_base.specs.declared.ids.ScopeId.{ScopeId}
-use Rattle.rx_base.specs.declared.place_set.PlaceSet.{PlaceSet}
-use Rattle.rx_base.specs.declared.values.Fault.{Fault}
+use Rattle.rx_rules.proofs.Common.{TaskId, ScopeId, PlaceSet, Fault, Block, Stmt, Tree, Term, Vars, started_by, own_path}
 use Rattle.rx_rules.specs.declared.entries.Act.{Act}
 use Rattle.rx_rules.specs.declared.entries.Act.TheVariants.{Open, At as Calling, Spawn, Arrive, Wait, Release, End, Print as Printed, Census as Counted}
 use Rattle.rx_rules.specs.declared.entries.Entry.{Entry}
 use Rattle.rx_rules.specs.declared.entries.Entry.TheVariants.{Step}
-use Rattle.rx_rules.specs.Code.{Block, Stmt}
-use Rattle.rx_rules.specs.Tree.{Tree}
-use Rattle.rx_rules.specs.Terms.{Term, Vars}
-use Rattle.rx_rules.specs.Plays.{started_by}
-use Rattle.rx_rules.specs.Order.{own_path}
 use Rattle.rx_laws.proofs.Straight.{code_at, is_waiter}
 use Rattle.rx_laws.proofs.TermCode.{Coded}
 use Rattle.rx_laws.proofs.Stacks.{open_paths, stack_after, Stacked, Pushes}

@@ -1,16 +1,11 @@
 -- All tasks of a run side by side: what each has to begin no other has, nor is it ahead of what another has.
-use Rattle.std.specs.Prelude.{◌≡◌, false, ℕ, suc, ◌<◌, ◌≤◌, cond, ◌==◌, List, [], ◌∷◌, ◌++◌, refl}
-use Rattle.std.proofs.Common.{sym, subst, ◌∙◌, arith, inl, inr}
+use Rattle.std.proofs.Common.{◌≡◌, false, ℕ, suc, ◌<◌, ◌≤◌, cond, ◌==◌, List, [], ◌∷◌, ◌++◌, refl, sym, subst, ◌∙◌, arith, inl, inr}
 use Rattle.std.proofs.lemmas.Bool.{false_from_ne_true, eqb-true, eq-eqb, ne_eqb, cond_both, true≢false}
-use Rattle.rx_base.specs.declared.ids.TaskId.{TaskId}
+use Rattle.rx_rules.proofs.Common.{TaskId, Term, Vars, moves_from, own_path, Block}
 use Rattle.rx_rules.specs.declared.entries.Act.{Act}
 use Rattle.rx_rules.specs.declared.entries.Entry.{Entry}
 use Rattle.rx_rules.specs.declared.entries.Entry.TheVariants.{Step}
-use Rattle.rx_rules.specs.Terms.{Term, Vars}
-use Rattle.rx_rules.specs.Plays.{moves_from}
-use Rattle.rx_rules.specs.Order.{own_path}
 use Rattle.rx_laws.proofs.TermOrder.{todo-starts, Todo, Sorted, Shrinks}
-use Rattle.rx_rules.specs.Code.{Block}
 use Rattle.rx_laws.proofs.Straight.{comes_ahead}
 use Rattle.rx_laws.proofs.Barriers.{comes_ahead-below}
 use Rattle.rx_laws.proofs.TermCode.{Coded}

@@ -1,10 +1,7 @@
 -- The items of a term are statements of the script at their paths.
-use Rattle.std.specs.Prelude.{◌≡◌, ℕ, zero, suc, ◌+◌, Bool, false, List, [], ◌∷◌, ◌++◌, Some, None, refl, nat_le}
-use Rattle.std.proofs.Common.{ap, subst, ◌∙◌, arith, append_assoc}
+use Rattle.std.proofs.Common.{◌≡◌, ℕ, zero, suc, ◌+◌, Bool, false, List, [], ◌∷◌, ◌++◌, Some, None, refl, nat_le, ap, subst, ◌∙◌, arith, append_assoc}
 use Rattle.std.proofs.lemmas.Bool.{cond_both}
-use Rattle.rx_base.specs.declared.values.Fault.{Fault}
-use Rattle.rx_rules.specs.Code.{Expr, Block, Nothing, Then, Stmt, SetTo, New, Get, Put, Forget, Census, Print, Throw, Async, AtAsync, At, Finish, If, Repeat, Try}
-use Rattle.rx_rules.specs.Terms.{Term, Empty, Run, Raise, Turns, Trying, Body, Held, Vars, Does, Gets, Puts, Forgets, Calls, Spawns, Prints, at, items_from, items, does, stmt_does, trying_does, body_does, granted, stmt_granted, body_granted, or_raise, child, stmt_child, eval, target_of, is_zero, catches, replaced, after_it}
+use Rattle.rx_rules.proofs.Common.{Fault, Expr, Block, Nothing, Then, Stmt, SetTo, New, Get, Put, Forget, Census, Print, Throw, Async, AtAsync, At, Finish, If, Repeat, Try, Term, Empty, Run, Raise, Turns, Trying, Body, Held, Vars, Does, Gets, Puts, Forgets, Calls, Spawns, Prints, at, items_from, items, does, stmt_does, trying_does, body_does, granted, stmt_granted, body_granted, or_raise, child, stmt_child, eval, target_of, is_zero, catches, replaced, after_it}
 use Rattle.rx_laws.proofs.Straight.{stmt_at, stmt_in, code_at, is_waiter}
 use Rattle.rx_laws.proofs.TermOrder.{IfLocal, local-number, local-place, local-ref, local-within}
 

@@ -1,12 +1,7 @@
 -- What a term has still to begin, and that it begins it in order.
-use Rattle.std.specs.Prelude.{◌≡◌, ◌⊎◌, ℕ, suc, ℤ, ◌≤◌, Bool, ◌==◌, List, [], ◌∷◌, Option, Some, None, Result, Ok, Err, refl, nat_le}
-use Rattle.std.proofs.Common.{sym, subst, ◌∙◌, arith, inl, inr}
+use Rattle.std.proofs.Common.{◌≡◌, ◌⊎◌, ℕ, suc, ℤ, ◌≤◌, Bool, ◌==◌, List, [], ◌∷◌, Option, Some, None, Result, Ok, Err, refl, nat_le, sym, subst, ◌∙◌, arith, inl, inr}
 use Rattle.std.proofs.lemmas.Bool.{cond_both}
-use Rattle.rx_base.specs.declared.ids.GlobalRef.{GlobalRef}
-use Rattle.rx_base.specs.declared.values.Fault.{Fault}
-use Rattle.rx_base.specs.declared.values.Fault.TheVariants.{WrongPlace}
-use Rattle.rx_rules.specs.Code.{Block, Nothing, Then, Stmt, SetTo, New, Get, Put, Forget, Census, Print, Throw, Async, AtAsync, At, Finish, If, Repeat, Try}
-use Rattle.rx_rules.specs.Terms.{Term, Empty, Run, Raise, Turns, Trying, Body, Held, Vars, Does, Local, Makes, Gets, Puts, Forgets, Opens, Calls, Spawns, Waits, Releases, Prints, Counts, Done, at, items_from, items, does, stmt_does, trying_does, body_does, within, with_number, with_place, on_ref, begins, granted, stmt_granted, body_granted, or_raise, child, stmt_child, raise, eval, target_of, ref_in, value_of, is_zero, catches, replaced, after_it}
+use Rattle.rx_rules.proofs.Common.{GlobalRef, Fault, WrongPlace, Block, Nothing, Then, Stmt, SetTo, New, Get, Put, Forget, Census, Print, Throw, Async, AtAsync, At, Finish, If, Repeat, Try, Term, Empty, Run, Raise, Turns, Trying, Body, Held, Vars, Does, Local, Makes, Gets, Puts, Forgets, Opens, Calls, Spawns, Waits, Releases, Prints, Counts, Done, at, items_from, items, does, stmt_does, trying_does, body_does, within, with_number, with_place, on_ref, begins, granted, stmt_granted, body_granted, or_raise, child, stmt_child, raise, eval, target_of, ref_in, value_of, is_zero, catches, replaced, after_it}
 use Rattle.rx_laws.proofs.Paths.{Starts, Below, Comes, starts-same, starts-trans, starts-at, below-at, below-starts, starts-below, below-comes, within-comes}
 
 -- the paths that a term, or a task that it starts, may still begin: those that begin with a path of an item

@@ -1,14 +1,12 @@
 -- What ties the tree of a history to what is read from its entries.
-use Rattle.std.specs.Prelude.{◌≡◌, ℕ, suc, ◌<◌, ◌≤◌, Bool, true, false, cond, ◌||◌, ◌==◌, List, [], ◌∷◌, length, Option, Some, None, is_some, refl, slice_index_or}
+use Rattle.std.proofs.Common.{◌≡◌, ℕ, suc, ◌<◌, ◌≤◌, Bool, true, false, cond, ◌||◌, ◌==◌, List, [], ◌∷◌, length, Option, Some, None, is_some, refl, slice_index_or, ap, sym, subst, ◌∙◌, arith, inl, inr}
 use Rattle.std.specs.Option.{option_or}
 use Rattle.std.specs.List.{list_any, cons_option}
-use Rattle.std.proofs.Common.{ap, sym, subst, ◌∙◌, arith, inl, inr}
 use Rattle.std.proofs.lemmas.Bool.{eqb-true, eq-eqb, ne_eqb, or_parts, or_cases, or_left, or_right, or_from, cond_both, true≢false}
-use Rattle.rx_base.specs.declared.ids.PlaceId.{PlaceId}
+use Rattle.rx_rules.proofs.Common.{PlaceId, Tree, TaskBirth, is_on, hit_at, is_born, born_so_far, is_birth_of}
 use Rattle.rx_rules.specs.declared.entries.Entry.{Entry}
 use Rattle.rx_rules.specs.declared.entries.Entry.TheVariants.{Step, Root, Death, Join}
-use Rattle.rx_rules.specs.Tree.{Tree}
-use Rattle.rx_rules.specs.Laws.{TaskBirth, is_on, hit_at, is_born, born_so_far, is_birth_of, birth_told}
+use Rattle.rx_rules.specs.Laws.{birth_told}
 use Rattle.rx_laws.proofs.Lines.{Bone, bones, nums, line, Falls, has_finish, has-below}
 use Rattle.rx_laws.proofs.Aligned.{Facts, facts, IsRow, IsOut, ended, gone, Aligned, row, BirthsOk, births-ok_up, aligned-kept}
 use Rattle.rx_rules.specs.declared.tasks.Task.{Task}

@@ -1,15 +1,9 @@
 -- Arrivals, ends, deaths and releases keep what ties the tree to the entries.
-use Rattle.std.specs.Prelude.{◌≡◌, ℕ, ◌<◌, Bool, true, false, not, ◌&&◌, ◌||◌, ◌==◌, List, [], ◌∷◌, length, map, filter, Option, Some, None, is_some, is_none, refl, slice_index_or, slice_set}
+use Rattle.std.proofs.Common.{◌≡◌, ℕ, ◌<◌, Bool, true, false, not, ◌&&◌, ◌||◌, ◌==◌, List, [], ◌∷◌, length, map, filter, Option, Some, None, is_some, is_none, refl, slice_index_or, slice_set, ap, sym, ◌∙◌, arith, length-set}
 use Rattle.std.specs.List.{list_any, list_all, find}
-use Rattle.std.proofs.Common.{ap, sym, ◌∙◌, arith, length-set}
 use Rattle.std.proofs.lemmas.Bool.{eqb-true, eq-eqb, ne_eqb, or_left, or_right, or_from, and_from, true≢false, not-true, not_from_false}
 use Rattle.std.proofs.lemmas.List.{get_or-set_same, get_or-set_other}
-use Rattle.rx_base.specs.declared.ids.PlaceId.{PlaceId}
-use Rattle.rx_base.specs.declared.ids.TaskId.{TaskId}
-use Rattle.rx_rules.specs.Tree.{is_task}
-use Rattle.rx_rules.specs.Entries.{change_first}
-use Rattle.rx_rules.specs.Entries.{hit as hit_row}
-use Rattle.rx_rules.specs.Laws.{TaskBirth, is_on}
+use Rattle.rx_rules.proofs.Common.{PlaceId, TaskId, is_task, change_first, hit as hit_row, TaskBirth, is_on}
 use Rattle.rx_laws.proofs.Lines.{Bone, nums, line, has_finish, has-below, has-filter, line_on, line-filter, falls-filter}
 use Rattle.rx_laws.proofs.Aligned.{Facts, found, landed_too, arrived, TravelsTo, aligned-arrive, ended_too, is_other, Unstruck, aligned-end}
 use Rattle.rx_laws.proofs.Losses.{is_off, left_of, released_too, any-none, aligned-release, struck_too, aligned-struck}

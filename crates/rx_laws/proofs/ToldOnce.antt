@@ -1,25 +1,17 @@
 -- No statement is told twice in a run; and the order of a history, from what other tasks have still to begin.
-use Rattle.std.specs.Prelude.{◌≡◌, ℕ, zero, suc, ◌+◌, Bool, true, false, not, List, [], ◌∷◌, Some, slice_get, refl}
+use Rattle.std.proofs.Common.{◌≡◌, ℕ, zero, suc, ◌+◌, Bool, true, false, not, List, [], ◌∷◌, Some, slice_get, refl, sym, subst, arith, add-zero}
 use Rattle.std.specs.List.{filter_map, list_all}
-use Rattle.std.proofs.Common.{sym, subst, arith, add-zero}
-use Rattle.rx_base.specs.declared.ids.PlaceId.{PlaceId}
+use Rattle.rx_rules.proofs.Common.{PlaceId, Block, opening, Term, Empty, items, Vars, no_vars, Begins, EachPlays, birth_of, travels, cell_of, journal_at, moves_from, Given, IsRun, InOrder, told, comes_before, Tree}
 use Rattle.rx_rules.specs.declared.events.Cell.{Cell}
 use Rattle.rx_rules.specs.declared.entries.Act.{Act}
 use Rattle.rx_rules.specs.declared.entries.Entry.{Entry}
 use Rattle.rx_rules.specs.declared.events.PlaceEvent.{PlaceEvent}
-use Rattle.rx_rules.specs.Code.{Block}
-use Rattle.rx_rules.specs.Fold.{opening}
-use Rattle.rx_rules.specs.Terms.{Term, Empty, items, Vars, no_vars}
-use Rattle.rx_rules.specs.Plays.{Begins, EachPlays, birth_of, travels, cell_of, journal_at, moves_from}
-use Rattle.rx_rules.specs.Run.{Given, IsRun}
-use Rattle.rx_rules.specs.Order.{InOrder, told, comes_before}
 use Rattle.rx_laws.proofs.Paths.{Comes, comes-other, comes-kept}
 use Rattle.rx_laws.proofs.TermOrder.{Todo, items-sorted}
 use Rattle.rx_laws.proofs.Says.{Goes, on, travels as on_its_way}
 use Rattle.rx_laws.proofs.TermCode.{start-coded}
 use Rattle.rx_laws.proofs.NestedTerm.{items-nested}
 use Rattle.rx_laws.proofs.Story.{Shape}
-use Rattle.rx_rules.specs.Tree.{Tree}
 use Rattle.rx_laws.proofs.ToldPairs.{Keeps, Related, EachPair, Others}
 use Rattle.rx_laws.proofs.HistoryPairs.{Any, Tale, told-from}
 use Rattle.rx_laws.proofs.LawsHold.{tied-opening}

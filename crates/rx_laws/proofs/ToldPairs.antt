@@ -1,21 +1,13 @@
 -- What is pending falls from entry to entry, and what an entry tells is related to all that is pending after it.
-use Rattle.std.specs.Prelude.{◌≡◌, ◌⊎◌, ℕ, suc, ◌<◌, Bool, true, false, not, ◌&&◌, ◌||◌, ◌==◌, List, [], ◌∷◌, ◌++◌, map, filter, Some, None, is_none, is_some, refl}
+use Rattle.std.proofs.Common.{◌≡◌, ◌⊎◌, ℕ, suc, ◌<◌, Bool, true, false, not, ◌&&◌, ◌||◌, ◌==◌, List, [], ◌∷◌, ◌++◌, map, filter, Some, None, is_none, is_some, refl, ap, sym, subst, ◌∙◌, arith, inl, inr, add-zero}
 use Rattle.std.specs.List.{list_any, find}
-use Rattle.std.proofs.Common.{ap, sym, subst, ◌∙◌, arith, inl, inr, add-zero}
 use Rattle.std.proofs.lemmas.Bool.{eqb-true, eq-eqb, cond_both, or_cases, or_left, or_right, and_parts, and_from, cases_order}
-use Rattle.rx_base.specs.declared.ids.TaskId.{TaskId}
-use Rattle.rx_base.specs.declared.values.Fault.{Fault}
+use Rattle.rx_rules.proofs.Common.{TaskId, Fault, Tree, is_task, task_of, is_under, the_root, Allowed, AllowedAct, made, after_end, born, waiting, resumed, without, change_first, hit, is_hit, Block, Term, Vars, started_by, own_path, is_born, born_so_far}
 use Rattle.rx_rules.specs.declared.tasks.Where.TheVariants.{At}
 use Rattle.rx_rules.specs.declared.entries.Act.{Act}
 use Rattle.rx_rules.specs.declared.entries.Act.TheVariants.{Open, At as Calls, Spawn, Arrive, Wait, Release, End, Print, Census}
 use Rattle.rx_rules.specs.declared.entries.Entry.{Entry}
 use Rattle.rx_rules.specs.declared.entries.Entry.TheVariants.{Step, Root, Death, Join}
-use Rattle.rx_rules.specs.Tree.{Tree, is_task, task_of, is_under, the_root}
-use Rattle.rx_rules.specs.Entries.{Allowed, AllowedAct, made, after_end, born, waiting, resumed, without, change_first, hit, is_hit}
-use Rattle.rx_rules.specs.Code.{Block}
-use Rattle.rx_rules.specs.Terms.{Term, Vars}
-use Rattle.rx_rules.specs.Plays.{started_by}
-use Rattle.rx_rules.specs.Order.{own_path}
 use Rattle.rx_laws.proofs.Paths.{Comes}
 use Rattle.rx_laws.proofs.TermOrder.{Todo}
 use Rattle.rx_laws.proofs.Turns.{InTurn, ComesAll, AllWithin}
@@ -24,7 +16,6 @@ use Rattle.rx_laws.proofs.Stacks.{open_paths, outermost}
 use Rattle.rx_laws.proofs.Lies.{Moves}
 use Rattle.rx_laws.proofs.Says.{Says, ChildOf}
 use Rattle.rx_laws.proofs.Story.{Shape, set_at, set_case}
-use Rattle.rx_rules.specs.Laws.{is_born, born_so_far}
 use Rattle.rx_laws.proofs.Lines.{bones}
 use Rattle.rx_laws.proofs.Aligned.{facts}
 use Rattle.rx_laws.proofs.Ties.{Tied, has_died}

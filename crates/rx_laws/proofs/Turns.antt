@@ -1,15 +1,11 @@
 -- What a task tells at its next entry.
-use Rattle.std.specs.Prelude.{◌≡◌, ◌⊎◌, ℕ, suc, ◌≤◌, List, [], ◌∷◌, ◌++◌, Option, Some, None, refl}
-use Rattle.std.proofs.Common.{arith, sym, subst, ◌∙◌, inl, inr, append_assoc, append-nil}
-use Rattle.rx_base.specs.declared.ids.PlaceId.{PlaceId}
-use Rattle.rx_base.specs.declared.values.Fault.{Fault}
+use Rattle.std.proofs.Common.{◌≡◌, ◌⊎◌, ℕ, suc, ◌≤◌, List, [], ◌∷◌, ◌++◌, Option, Some, None, refl, arith, sym, subst, ◌∙◌, inl, inr, append_assoc, append-nil}
+use Rattle.rx_rules.proofs.Common.{PlaceId, Fault, Term, Raise, does, begins, granted, Answer, Gives, Fine, Fails, answered, after_it, Vars, Plays, asks, ends, stops, StartsSo, brought, vars_told, Block}
 use Rattle.rx_rules.specs.declared.events.Cell.{Cell}
 use Rattle.rx_rules.specs.declared.entries.Act.{Act}
 use Rattle.rx_rules.specs.declared.entries.Act.TheVariants.{End}
-use Rattle.rx_rules.specs.Terms.{Term, Raise, does, begins, granted, Answer, Gives, Fine, Fails, answered, after_it, Vars}
-use Rattle.rx_rules.specs.Plays.{Plays, local, stores, asks, ends, stops, Fits, StartsSo, brought, vars_told}
+use Rattle.rx_rules.specs.Plays.{local, stores, Fits}
 use Rattle.rx_laws.proofs.Paths.{Comes}
-use Rattle.rx_rules.specs.Code.{Block}
 use Rattle.rx_laws.proofs.TermCode.{Coded, local-coded, replaced-coded, after-coded}
 use Rattle.rx_laws.proofs.NestedTerm.{Nested, EachStarts, local-nested, fine-nested, fails-nested, begun-inside}
 use Rattle.rx_laws.proofs.Stacks.{done-closed, fits-not_end}

@@ -1,13 +1,8 @@
 -- Who may ask for what after an act of its own, after an entry of another, and when it is started.
-use Rattle.std.specs.Prelude.{◌≡◌, ℕ, ◌<◌, ◌==◌, Bool, true, false, cond, drop, List, [], ◌∷◌, ◌++◌, map, reverse, Some, None, slice_index_or, refl}
-use Rattle.std.proofs.Common.{ap, ◌∙◌, sym, subst, arith, inl, inr}
+use Rattle.std.proofs.Common.{◌≡◌, ℕ, ◌<◌, ◌==◌, Bool, true, false, cond, drop, List, [], ◌∷◌, ◌++◌, map, reverse, Some, None, slice_index_or, refl, ap, ◌∙◌, sym, subst, arith, inl, inr}
 use Rattle.std.proofs.lemmas.Bool.{eq-eqb, ne_eqb}
 use Rattle.std.proofs.lemmas.List.{reverse-append, reverse-reverse}
-use Rattle.rx_base.specs.declared.ids.PlaceId.{PlaceId}
-use Rattle.rx_base.specs.declared.ids.ScopeId.{ScopeId}
-use Rattle.rx_base.specs.declared.ids.TaskId.{TaskId}
-use Rattle.rx_base.specs.declared.place_set.PlaceSet.{PlaceSet}
-use Rattle.rx_base.specs.declared.values.Fault.{Fault}
+use Rattle.rx_rules.proofs.Common.{PlaceId, ScopeId, TaskId, PlaceSet, Fault, Term, Does, Opens, Calls, Spawns, Waits, Releases, Prints, Counts, Tree, task_of, inner, own_scope, the_root, Allowed, AllowedAct, Unstruck, made, made_act, born, tree_of, Reached, Given, Folds}
 use Rattle.rx_rules.specs.declared.tasks.Kind.{Kind}
 use Rattle.rx_rules.specs.declared.tasks.Kind.TheVariants.{Finish, Call}
 use Rattle.rx_rules.specs.declared.tasks.Scope.{Scope}
@@ -18,12 +13,6 @@ use Rattle.rx_rules.specs.declared.entries.Act.TheVariants.{Open, At as Called, 
 use Rattle.rx_rules.specs.declared.entries.Entry.{Entry}
 use Rattle.rx_rules.specs.declared.entries.Entry.TheVariants.{Step, Root, Death, Join}
 use Rattle.rx_rules.specs.Plays.{Fits}
-use Rattle.rx_rules.specs.Terms.{Term, Does, Opens, Calls, Spawns, Waits, Releases, Prints, Counts}
-use Rattle.rx_rules.specs.Tree.{Tree, task_of, inner, own_scope, the_root}
-use Rattle.rx_rules.specs.Entries.{Allowed, AllowedAct, Unstruck, made, made_act, born}
-use Rattle.rx_rules.specs.Fold.{tree_of}
-use Rattle.rx_rules.specs.Reached.{Reached}
-use Rattle.rx_rules.specs.Run.{Given, Folds}
 use Rattle.rx_sound.specs.Sound.{Sound}
 use Rattle.rx_sound.proofs.Reached.{sound}
 use Rattle.rx_sound.proofs.Reach.{task_below}

@@ -1,11 +1,8 @@
 -- What an entry leaves of a task that does not make it.
-use Rattle.std.specs.Prelude.{◌≡◌, ◌≢◌, ℕ, ◌<◌, ◌==◌, Bool, true, false, cond, not, ◌&&◌, filter, map, List, [], ◌∷◌, ◌++◌, Option, Some, None, is_some, is_none, option_map, refl}
+use Rattle.std.proofs.Common.{◌≡◌, ◌≢◌, ℕ, ◌<◌, ◌==◌, Bool, true, false, cond, not, ◌&&◌, filter, map, List, [], ◌∷◌, ◌++◌, Option, Some, None, is_some, is_none, option_map, refl, ap, ◌∙◌, sym, subst, arith, ◌⊎◌, inl, inr}
 use Rattle.std.specs.List.{find, list_any}
-use Rattle.std.proofs.Common.{ap, ◌∙◌, sym, subst, arith, ◌⊎◌, inl, inr}
 use Rattle.std.proofs.lemmas.Bool.{eqb-true, ne_eqb, true≢false, false_from_ne_true, not-true}
-use Rattle.rx_base.specs.declared.ids.TaskId.{TaskId}
-use Rattle.rx_base.specs.declared.ids.ScopeId.{ScopeId}
-use Rattle.rx_base.specs.declared.values.Fault.{Fault}
+use Rattle.rx_rules.proofs.Common.{TaskId, ScopeId, Fault, Tree, is_task, task_of, is_scope, is_under, on_chain, opened_by, quiet, the_root, Allowed, AllowedAct, made, made_act, after_end, change_first, change_scope, waiting, resumed, born, without, hit, widened, Reached, opens, acts, dies, joins}
 use Rattle.rx_base.proofs.Elements.{find-passes}
 use Rattle.rx_rules.specs.declared.entries.Act.{Act}
 use Rattle.rx_rules.specs.declared.entries.Act.TheVariants.{Open, At as Calls, Spawn, Arrive, Wait, Release, End, Print, Census}
@@ -15,9 +12,7 @@ use Rattle.rx_rules.specs.declared.tasks.Where.TheVariants.{At}
 use Rattle.rx_rules.specs.declared.tasks.Blow.{Blow}
 use Rattle.rx_rules.specs.declared.tasks.Task.{Task}
 use Rattle.rx_rules.specs.declared.tasks.Scope.{Scope}
-use Rattle.rx_rules.specs.Tree.{Tree, is_task, task_of, is_scope, is_under, on_chain, opened_by, quiet, the_root}
-use Rattle.rx_rules.specs.Entries.{Allowed, AllowedAct, made, made_act, after_end, change_first, change_scope, waiting, resumed, born, without, hit, widened}
-use Rattle.rx_rules.specs.Reached.{Reached, opens, acts, ends, dies, joins}
+use Rattle.rx_rules.specs.Reached.{ends}
 use Rattle.rx_rules.proofs.Lookups.{number-of}
 use Rattle.rx_sound.specs.Sound.{Each, TasksFall, Sound}
 use Rattle.rx_sound.specs.Chains.{meets}

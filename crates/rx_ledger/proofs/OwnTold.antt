@@ -1,11 +1,9 @@
 -- The scopes of a task are those that its own entries tell.
-use Rattle.std.specs.Prelude.{◌≡◌, ℕ, suc, ◌+◌, ◌<◌, ◌≤◌, ◌==◌, Bool, true, false, cond, not, filter, map, drop, length, List, [], ◌∷◌, ◌++◌, Option, Some, None, option_map, All, refl}
+use Rattle.std.proofs.Common.{◌≡◌, ℕ, suc, ◌+◌, ◌<◌, ◌≤◌, ◌==◌, Bool, true, false, cond, not, filter, map, drop, length, List, [], ◌∷◌, ◌++◌, Option, Some, None, option_map, All, refl, ap, ◌∙◌, sym, subst, arith, inl, inr}
 use Rattle.std.specs.List.{find}
-use Rattle.std.proofs.Common.{ap, ◌∙◌, sym, subst, arith, inl, inr}
 use Rattle.std.proofs.lemmas.Bool.{eqb-true, eqb-false, eq-eqb, ne_eqb, true≢false, not-true}
 use Rattle.std.proofs.lemmas.Bool.Decides.{leb_tells}
-use Rattle.rx_base.specs.declared.ids.TaskId.{TaskId}
-use Rattle.rx_base.specs.declared.ids.ScopeId.{ScopeId}
+use Rattle.rx_rules.proofs.Common.{TaskId, ScopeId, Tree, task_of, is_task, is_scope, opened_by, Allowed, AllowedAct, made, made_act, change_scope, hit, AllAllowed, fold_from, opening, tree_of, Reached, IsOlder, opens, Given, Folds}
 use Rattle.rx_base.proofs.Elements.{find-passes}
 use Rattle.rx_base.proofs.SameIds.{task-is}
 use Rattle.rx_rules.specs.declared.entries.Act.{Act}
@@ -17,11 +15,6 @@ use Rattle.rx_rules.specs.declared.tasks.Kind.TheVariants.{Finish}
 use Rattle.rx_rules.specs.declared.tasks.Blow.{Blow}
 use Rattle.rx_rules.specs.declared.tasks.Task.{Task}
 use Rattle.rx_rules.specs.declared.tasks.Scope.{Scope}
-use Rattle.rx_rules.specs.Tree.{Tree, task_of, is_task, is_scope, opened_by}
-use Rattle.rx_rules.specs.Entries.{Allowed, AllowedAct, made, made_act, change_scope, hit}
-use Rattle.rx_rules.specs.Fold.{AllAllowed, fold_from, opening, tree_of}
-use Rattle.rx_rules.specs.Reached.{Reached, IsOlder, opens}
-use Rattle.rx_rules.specs.Run.{Given, Folds}
 use Rattle.rx_sound.proofs.Reach.{task_below}
 use Rattle.rx_sound.proofs.Reached.{sound}
 use Rattle.rx_sound.proofs.Histories.{reached_now, dead-now, none_yet}

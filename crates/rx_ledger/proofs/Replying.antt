@@ -1,7 +1,6 @@
 -- What a keeper answers where its chronicle has granted a request, or refused it.
-use Rattle.std.specs.Prelude.{◌≡◌, ℕ, List, Some, None, refl}
-use Rattle.std.proofs.Common.{ap, ◌∙◌, sym, subst, inl, inr}
-use Rattle.rx_base.specs.declared.ids.PlaceId.{PlaceId}
+use Rattle.std.proofs.Common.{◌≡◌, ℕ, List, Some, None, refl, ap, ◌∙◌, sym, subst, inl, inr}
+use Rattle.rx_rules.proofs.Common.{PlaceId}
 use Rattle.rx_rules.specs.declared.entries.Act.{Act}
 use Rattle.rx_history.specs.Logs.{Log}
 use Rattle.rx_finish.specs.declared.ledger.Caller.{Caller}

@@ -1,14 +1,8 @@
 -- What may be asked of a tree may be asked of it after a death, and after a join.
-use Rattle.std.specs.Prelude.{◌≡◌, ℕ, suc, List, [], ◌∷◌, Option, Some, None, option_map}
-use Rattle.std.proofs.Common.{ap, ◌∙◌, arith, inl, inr}
-use Rattle.rx_base.specs.declared.ids.PlaceId.{PlaceId}
-use Rattle.rx_base.specs.declared.ids.TaskId.{TaskId}
-use Rattle.rx_base.specs.declared.ids.ScopeId.{ScopeId}
+use Rattle.std.proofs.Common.{◌≡◌, ℕ, suc, List, [], ◌∷◌, Option, Some, None, option_map, ap, ◌∙◌, arith, inl, inr}
+use Rattle.rx_rules.proofs.Common.{PlaceId, TaskId, ScopeId, Tree, inner, own_scope, strike, hit, widened, fold_from}
 use Rattle.rx_rules.specs.declared.tasks.Task.{Task}
 use Rattle.rx_rules.specs.declared.tasks.Blow.{Blow}
-use Rattle.rx_rules.specs.Tree.{Tree, inner, own_scope}
-use Rattle.rx_rules.specs.Entries.{strike, hit, widened}
-use Rattle.rx_rules.specs.Fold.{fold_from}
 use Rattle.rx_sound.proofs.Blows.{hit_number, hit_under, hit_place}
 use Rattle.rx_sound.proofs.Waiting.{hit_waits}
 use Rattle.rx_chronicle.proofs.Linking.{find-hit}

@@ -1,15 +1,12 @@
 -- A request of which an entry is told may be made, and no unstruck task hinders it.
 use Rattle.std.proofs.Common.{◌≡◌, ℕ, true, Some, ap, sym, ◌∙◌, subst, refl}
 use Rattle.std.proofs.lemmas.Bool.{true≢false}
-use Rattle.rx_base.specs.declared.ids.TaskId.{TaskId}
-use Rattle.rx_base.specs.declared.ids.PlaceId.{PlaceId}
+use Rattle.rx_rules.proofs.Common.{TaskId, PlaceId, Tree, task_of, own_scope, inner, quiet, the_root, Allowed, AllowedAct}
 use Rattle.rx_base.proofs.SameIds.{task-is, scope-is}
 use Rattle.rx_rules.specs.declared.tasks.Task.{Task}
 use Rattle.rx_rules.specs.declared.entries.Act.TheVariants.{Release as ReleaseAct}
 use Rattle.rx_rules.specs.declared.entries.Entry.{Entry}
 use Rattle.rx_rules.specs.declared.entries.Entry.TheVariants.{Root as RootEntry}
-use Rattle.rx_rules.specs.Tree.{Tree, task_of, own_scope, inner, quiet, the_root}
-use Rattle.rx_rules.specs.Entries.{Allowed, AllowedAct}
 use Rattle.rx_rules.proofs.Lookups.{number-of}
 use Rattle.rx_sound.proofs.Enabling.{inner_is}
 use Rattle.rx_finish.specs.Callers.{HasRoot}

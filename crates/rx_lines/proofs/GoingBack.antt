@@ -1,11 +1,8 @@
 -- Who may ask for a release after an entry, and was there before it, could ask before it.
-use Rattle.std.specs.Prelude.{◌<◌, ◌≤◌, ◌||◌, cond, None}
+use Rattle.std.proofs.Common.{◌<◌, ◌≤◌, ◌||◌, cond, None, ◌≡◌, ℕ, Bool, true, false, List, [], ◌∷◌, Option, Some, refl, ap, sym, ◌∙◌, subst, arith, inl, inr}
 use Rattle.std.specs.List.{find}
-use Rattle.std.proofs.Common.{◌≡◌, ℕ, Bool, true, false, List, [], ◌∷◌, Option, Some, refl, ap, sym, ◌∙◌, subst, arith, inl, inr}
 use Rattle.std.proofs.lemmas.Bool.{true≢false, cases_eq}
-use Rattle.rx_base.specs.declared.ids.TaskId.{TaskId}
-use Rattle.rx_base.specs.declared.ids.ScopeId.{ScopeId}
-use Rattle.rx_base.specs.declared.ids.PlaceId.{PlaceId}
+use Rattle.rx_rules.proofs.Common.{TaskId, ScopeId, PlaceId, Tree, is_scope, wants, the_root, AllowedAct, Allowed, made, made_act, Reached}
 use Rattle.rx_base.proofs.SameIds.{task-is}
 use Rattle.rx_rules.specs.declared.tasks.Scope.{Scope}
 use Rattle.rx_rules.specs.declared.tasks.Blow.{Blow}
@@ -13,9 +10,6 @@ use Rattle.rx_rules.specs.declared.entries.Act.{Act}
 use Rattle.rx_rules.specs.declared.entries.Act.TheVariants.{Open, At as Calls, Spawn, Arrive, Wait, Release, End, Print, Census}
 use Rattle.rx_rules.specs.declared.entries.Entry.{Entry}
 use Rattle.rx_rules.specs.declared.entries.Entry.TheVariants.{Step, Root as RootEntry, Death, Join}
-use Rattle.rx_rules.specs.Tree.{Tree, is_scope, wants, the_root}
-use Rattle.rx_rules.specs.Entries.{AllowedAct, Allowed, made, made_act}
-use Rattle.rx_rules.specs.Reached.{Reached}
 use Rattle.rx_sound.specs.Chains.{meets}
 use Rattle.rx_sound.proofs.Reached.{sound}
 use Rattle.rx_sound.proofs.Reach.{fits_of}

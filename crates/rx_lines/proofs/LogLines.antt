@@ -1,10 +1,6 @@
 -- The lines of the log are those of the entries.
-use Rattle.std.specs.Prelude.{codes, ◌==◌, ◌||◌, Bool, true, false, cond}
-use Rattle.std.proofs.Common.{◌≡◌, ℕ, ◌+◌, List, [], ◌∷◌, ◌++◌, length, ap, sym, ◌∙◌, append_assoc, append-nil, arith}
-use Rattle.rx_base.specs.declared.ids.PlaceId.{PlaceId}
-use Rattle.rx_base.specs.declared.ids.ScopeId.{ScopeId}
-use Rattle.rx_base.specs.declared.ids.TaskId.{TaskId}
-use Rattle.rx_base.specs.declared.values.Fault.{Fault}
+use Rattle.std.proofs.Common.{codes, ◌==◌, ◌||◌, Bool, true, false, cond, ◌≡◌, ℕ, ◌+◌, List, [], ◌∷◌, ◌++◌, length, ap, sym, ◌∙◌, append_assoc, append-nil, arith}
+use Rattle.rx_rules.proofs.Common.{PlaceId, ScopeId, TaskId, Fault, place_number}
 use Rattle.rx_rules.specs.declared.entries.Act.TheVariants.{Open, At, Spawn, Arrive, Wait, Release, End}
 use Rattle.rx_rules.specs.declared.entries.Entry.{Entry}
 use Rattle.rx_rules.specs.declared.entries.Entry.TheVariants.{Step, Root, Death, Join}
@@ -15,7 +11,6 @@ use Rattle.rx_trace.specs.Fields.{path_field, place_field, task_field, scope_fie
 use Rattle.rx_trace.specs.Parts.{lost_part, masked_part, thrown_part}
 use Rattle.rx_finish.specs.declared.ledger.Born.{Born}
 use Rattle.rx_finish.specs.declared.ledger.Outcome.{Outcome}
-use Rattle.rx_rules.specs.Entries.{place_number}
 use Rattle.rx_coordinator.specs.declared.requests.Answer.TheVariants.{Sent}
 use Rattle.rx_lines.specs.declared.note.Note.{Note}
 use Rattle.rx_lines.specs.Stated.{stated, log_lines}

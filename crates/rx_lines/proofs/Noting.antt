@@ -1,11 +1,7 @@
 -- What was noted of a request makes the entries for which its answer stands.
-use Rattle.std.specs.Prelude.{◌==◌, ◌||◌, not}
-use Rattle.std.proofs.Common.{◌≡◌, ℕ, Bool, true, false, cond, List, [], ◌∷◌, ◌++◌, length, Some, None, refl, ap, sym, ◌∙◌, subst, append_assoc, append-nil, inl, inr}
+use Rattle.std.proofs.Common.{◌==◌, ◌||◌, not, ◌≡◌, ℕ, Bool, true, false, cond, List, [], ◌∷◌, ◌++◌, length, Some, None, refl, ap, sym, ◌∙◌, subst, append_assoc, append-nil, inl, inr}
 use Rattle.std.proofs.lemmas.Bool.{true≢false}
-use Rattle.rx_base.specs.declared.ids.PlaceId.{PlaceId}
-use Rattle.rx_base.specs.declared.ids.ScopeId.{ScopeId}
-use Rattle.rx_base.specs.declared.ids.TaskId.{TaskId}
-use Rattle.rx_base.specs.declared.values.Fault.{Fault}
+use Rattle.rx_rules.proofs.Common.{PlaceId, ScopeId, TaskId, Fault, Tree, task_of, own_scope, inner, Allowed, AllowedAct, made, place_number, tree_of, Reached}
 use Rattle.rx_base.proofs.SameIds.{task-is, scope-is}
 use Rattle.rx_rules.specs.declared.tasks.Task.{Task}
 use Rattle.rx_rules.specs.declared.tasks.Scope.{Scope}
@@ -14,10 +10,6 @@ use Rattle.rx_rules.specs.declared.entries.Act.{Act}
 use Rattle.rx_rules.specs.declared.entries.Act.TheVariants.{Open as OpenAct, At as CallAct, Spawn as SpawnAct, Arrive as ArriveAct, Wait as WaitAct, Release as ReleaseAct}
 use Rattle.rx_rules.specs.declared.entries.Entry.{Entry}
 use Rattle.rx_rules.specs.declared.entries.Entry.TheVariants.{Step}
-use Rattle.rx_rules.specs.Tree.{Tree, task_of, own_scope, inner}
-use Rattle.rx_rules.specs.Entries.{Allowed, AllowedAct, made, place_number}
-use Rattle.rx_rules.specs.Fold.{tree_of}
-use Rattle.rx_rules.specs.Reached.{Reached}
 use Rattle.rx_rules.proofs.Lookups.{number-of}
 use Rattle.rx_rules.proofs.Append.{tree-push}
 use Rattle.rx_finish.specs.Calls.{landing}

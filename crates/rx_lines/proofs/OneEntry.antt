@@ -1,12 +1,6 @@
 -- What an answer tells of an entry, and what the entry makes, the tree determines.
-use Rattle.std.specs.Prelude.{codes}
-use Rattle.std.proofs.Common.{◌≡◌, ℕ, Bool, List, [], ◌++◌, Option, Some, refl, ap, sym, ◌∙◌, subst}
-use Rattle.rx_base.specs.declared.ids.TaskId.{TaskId}
-use Rattle.rx_base.specs.declared.ids.ScopeId.{ScopeId}
-use Rattle.rx_base.specs.declared.ids.PlaceId.{PlaceId}
-use Rattle.rx_base.specs.declared.place_set.PlaceSet.{PlaceSet}
-use Rattle.rx_base.specs.declared.values.Fault.{Fault}
-use Rattle.rx_base.specs.Sets.{members}
+use Rattle.std.proofs.Common.{codes, ◌≡◌, ℕ, Bool, List, [], ◌++◌, Option, Some, refl, ap, sym, ◌∙◌, subst}
+use Rattle.rx_rules.proofs.Common.{TaskId, ScopeId, PlaceId, PlaceSet, Fault, members, Tree, inner, governs, the_root, Allowed, AllowedAct, MayFree, made, change_task, resumed, without}
 use Rattle.rx_base.proofs.SameIds.{task-is, scope-is, place-is}
 use Rattle.rx_rules.specs.declared.tasks.Where.TheVariants.{At as Stays, Travel}
 use Rattle.rx_rules.specs.declared.tasks.Task.{Task}
@@ -14,8 +8,6 @@ use Rattle.rx_rules.specs.declared.tasks.Scope.{Scope}
 use Rattle.rx_rules.specs.declared.entries.Act.TheVariants.{Open as OpenAct, At as CallAct, Spawn as SpawnAct, Arrive as ArriveAct, Wait as WaitAct, Release as ReleaseAct}
 use Rattle.rx_rules.specs.declared.entries.Entry.{Entry}
 use Rattle.rx_rules.specs.declared.entries.Entry.TheVariants.{Step, Root as RootEntry, Join as JoinEntry}
-use Rattle.rx_rules.specs.Tree.{Tree, inner, governs, the_root}
-use Rattle.rx_rules.specs.Entries.{Allowed, AllowedAct, MayFree, made, change_task, resumed, without}
 use Rattle.rx_trace.specs.Fields.{natural_field}
 use Rattle.rx_trace.specs.Parts.{part_text, lost_part, masked_part}
 use Rattle.rx_runs.proofs.Asking.{one_task}

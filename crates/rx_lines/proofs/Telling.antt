@@ -2,7 +2,7 @@
 use Rattle.std.proofs.Common.{◌≡◌, ℕ, ◌≤◌, ◌<◌, ◌+◌, ◌-◌, Bool, true, false, List, [], ◌++◌, length, take, drop, Option, ap, sym, ◌∙◌, subst, append_assoc, append-nil, take-append-drop, length-drop, length-append, arith}
 use Rattle.std.specs.Io.KnownBytes.{Appends}
 use Rattle.std.proofs.KnownBytes.{Appends-trans}
-use Rattle.rx_base.specs.Outside.{Rose}
+use Rattle.rx_rules.proofs.Common.{Rose}
 use Rattle.rx_lines.specs.declared.output.Pending.{Pending}
 use Rattle.rx_lines.specs.Inside.Telling.{IsLeft, Tells, Puts}
 

@@ -1,14 +1,8 @@
 -- What an answer does, said of trees: two answers to one request where the same ran out do the same.
-use Rattle.std.specs.Prelude.{◌⊎◌, ◌==◌, suc, cond, length}
-use Rattle.std.proofs.Common.{◌≡◌, ℕ, Bool, true, false, List, [], ◌∷◌, ◌++◌, Option, Some, None, refl, ap, sym, ◌∙◌, subst, arith, inl, inr, length-append}
+use Rattle.std.proofs.Common.{◌⊎◌, ◌==◌, suc, cond, length, ◌≡◌, ℕ, Bool, true, false, List, [], ◌∷◌, ◌++◌, Option, Some, None, refl, ap, sym, ◌∙◌, subst, arith, inl, inr, length-append}
 use Rattle.std.proofs.lemmas.Bool.{true≢false}
-use Rattle.rx_base.specs.declared.ids.TaskId.{TaskId}
-use Rattle.rx_base.specs.declared.ids.ScopeId.{ScopeId}
-use Rattle.rx_base.specs.declared.ids.PlaceId.{PlaceId}
+use Rattle.rx_rules.proofs.Common.{TaskId, ScopeId, PlaceId, Tree, Allowed, made, tree_of}
 use Rattle.rx_rules.specs.declared.entries.Entry.{Entry}
-use Rattle.rx_rules.specs.Tree.{Tree}
-use Rattle.rx_rules.specs.Entries.{Allowed, made}
-use Rattle.rx_rules.specs.Fold.{tree_of}
 use Rattle.rx_rules.proofs.Append.{tree-push}
 use Rattle.rx_finish.specs.declared.ledger.Born.{Born}
 use Rattle.rx_coordinator.specs.declared.requests.Request.{Request}

@@ -1,10 +1,9 @@
 -- The host's pass of the ledger's book meets notes behind the root's release.
-use Rattle.std.specs.Prelude.{◌≡◌, List, [], ◌∷◌, ◌++◌, Option, Some, None, All}
-use Rattle.std.proofs.Common.{ap, sym, ◌∙◌, subst, append_assoc}
+use Rattle.std.proofs.Common.{◌≡◌, List, [], ◌∷◌, ◌++◌, Option, Some, None, All, ap, sym, ◌∙◌, subst, append_assoc}
 use Rattle.std.proofs.lemmas.List.{append-nil}
 use Rattle.std.proofs.lemmas.List.Elements.{All-nil, All-cons, All-weaker}
 use mathlib.Core.List.{IsPrefix}
-use Rattle.rx_rules.specs.Code.{Block}
+use Rattle.rx_rules.proofs.Common.{Block}
 use Rattle.rx_syntax.specs.Shape.{Stands}
 use Rattle.rx_book.specs.declared.passes.Pass.{Pass}
 use Rattle.rx_book.specs.declared.passes.Note.{Note}

@@ -1,11 +1,10 @@
 -- The host's passes of the places' books meet the notes that came with the root's release.
-use Rattle.std.specs.Prelude.{◌≡◌, ℕ, zero, suc, ◌+◌, List, [], ◌∷◌, ◌++◌, length, Some, All, slice_get, slice_set}
-use Rattle.std.proofs.Common.{ap, sym, ◌∙◌, subst, arith, append_assoc, Contains}
+use Rattle.std.proofs.Common.{◌≡◌, ℕ, zero, suc, ◌+◌, List, [], ◌∷◌, ◌++◌, length, Some, All, slice_get, slice_set, ap, sym, ◌∙◌, subst, arith, append_assoc, Contains}
 use Rattle.std.proofs.lemmas.List.{append-nil, map-set, length-set}
 use Rattle.std.proofs.lemmas.List.Elements.{All-nil, All-weaker, All-cons, All-contains, Contains-append_left, Contains-push}
 use Rattle.std.proofs.lemmas.Option.{slice_get_within}
 use Rattle.atomic_table.specs.Seated.{TableId}
-use Rattle.rx_base.specs.declared.ids.PlaceId.{PlaceId}
+use Rattle.rx_rules.proofs.Common.{PlaceId}
 use Rattle.rx_book.specs.declared.views.View.{View}
 use Rattle.rx_book.specs.declared.passes.Pass.{Pass}
 use Rattle.rx_book.specs.declared.passes.Note.{Note}

@@ -1,6 +1,5 @@
 -- What the host is told of its request for the root's release.
-use Rattle.std.specs.Prelude.{ℕ, Option}
-use Rattle.std.proofs.Common.{sym, subst}
+use Rattle.std.proofs.Common.{ℕ, Option, sym, subst}
 use Rattle.rx_book.specs.declared.views.View.{View}
 use Rattle.rx_book.specs.Calls.{Called}
 use Rattle.rx_parts.specs.declared.items.EntryItem.{EntryItem}

@@ -1,11 +1,9 @@
 -- The stores are closed where their places have died, the first place first.
-use Rattle.std.specs.Prelude.{◌≡◌, ℕ, suc, ◌+◌, ◌<◌, List, [], ◌∷◌, ◌++◌, reverse, length, refl}
-use Rattle.std.proofs.Common.{ap, sym, ◌∙◌, subst, arith, append_assoc}
+use Rattle.std.proofs.Common.{◌≡◌, ℕ, suc, ◌+◌, ◌<◌, List, [], ◌∷◌, ◌++◌, reverse, length, refl, ap, sym, ◌∙◌, subst, arith, append_assoc}
 use Rattle.std.proofs.lemmas.List.{append-nil, map-append, reverse-append, reverse-reverse, length-append, length_push, nil_from_length}
 use Rattle.rx_rules.specs.declared.entries.Entry.{Entry}
 use Rattle.rx_rules.specs.declared.events.PlaceEvent.{PlaceEvent}
-use Rattle.rx_rules.specs.Run.{death_number}
-use Rattle.rx_rules.specs.Store.{IsStoreRun, opening_state}
+use Rattle.rx_rules.proofs.Common.{death_number, IsStoreRun, opening_state}
 use Rattle.rx_history.specs.Events.{Events, AllEvents, events_of}
 use Rattle.rx_store.specs.Kept.{Kept}
 use Rattle.rx_objects.specs.Ending.{IsShut, EachShut}

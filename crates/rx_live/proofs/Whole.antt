@@ -1,14 +1,9 @@
 -- From the books of a run that has begun to the whole run.
-use Rattle.std.specs.Prelude.{◌≡◌, ℕ, ◌+◌, ◌≤◌, false, List, [], ◌∷◌, ◌++◌, length, Option, All}
-use Rattle.std.proofs.Common.{ap, sym, ◌∙◌, subst, arith}
+use Rattle.std.proofs.Common.{◌≡◌, ℕ, ◌+◌, ◌≤◌, false, List, [], ◌∷◌, ◌++◌, length, Option, All, ap, sym, ◌∙◌, subst, arith}
 use Rattle.std.proofs.lemmas.List.{length-map}
 use Rattle.rx_rules.specs.declared.entries.Entry.{Entry}
 use Rattle.rx_rules.specs.declared.events.PlaceEvent.{PlaceEvent}
-use Rattle.rx_rules.specs.Code.{Block}
-use Rattle.rx_rules.specs.Fold.{tree_of}
-use Rattle.rx_rules.specs.Tree.{Tree}
-use Rattle.rx_rules.specs.Run.{Proper, NoRoot, IsRun, in_all}
-use Rattle.rx_rules.specs.Terms.{Empty, items, no_vars}
+use Rattle.rx_rules.proofs.Common.{Block, tree_of, Tree, Proper, NoRoot, IsRun, in_all, Empty, items, no_vars}
 use Rattle.rx_syntax.specs.Shape.{Stands}
 use Rattle.rx_control.specs.declared.control.Control.{Control}
 use Rattle.rx_control.specs.Stands.{StandsFor}

@@ -1,10 +1,7 @@
 -- Whether a task is enabled, as the chronicle tells.
-use Rattle.std.specs.Prelude.{◌≡◌, ℕ, ◌<◌, get_or, length, true, false, not, ◌&&◌, ◌||◌, List, Option, Some, None, is_none, refl}
-use Rattle.std.proofs.Common.{ap, ◌∙◌, sym, subst}
+use Rattle.std.proofs.Common.{◌≡◌, ℕ, ◌<◌, get_or, length, true, false, not, ◌&&◌, ◌||◌, List, Option, Some, None, is_none, refl, ap, ◌∙◌, sym, subst}
 use Rattle.std.proofs.lemmas.Option.{slice_get-get_or}
-use Rattle.rx_rules.specs.Tree.{Tree, inner, quiet}
-use Rattle.rx_rules.specs.Reached.{Reached}
-use Rattle.rx_rules.specs.Picked.{is_enabled, Player}
+use Rattle.rx_rules.proofs.Common.{Tree, inner, quiet, Reached, is_enabled, Player}
 use Rattle.rx_sound.specs.Owning.{WaiterOwns}
 use Rattle.rx_finish.specs.Callers.{MayAskRelease, WaitsInside, HasNumbers}
 use Rattle.rx_finish.specs.Calls.{is_ready, blow_of}

@@ -1,26 +1,16 @@
 -- What a task's entry makes of the game for which a machine stands.
-use Rattle.std.specs.Prelude.{◌≡◌, ◌≢◌, ℕ, ◌<◌, Bool, true, false, List, [], ◌∷◌, ◌++◌, length, Option, Some, None, slice_get, slice_set, refl}
-use Rattle.std.proofs.Common.{ap, ◌∙◌, sym, subst, inl, inr}
+use Rattle.std.proofs.Common.{◌≡◌, ◌≢◌, ℕ, ◌<◌, Bool, true, false, List, [], ◌∷◌, ◌++◌, length, Option, Some, None, slice_get, slice_set, refl, ap, ◌∙◌, sym, subst, inl, inr}
 use Rattle.std.proofs.lemmas.List.{append-nil, length-set}
 use Rattle.std.proofs.lemmas.Option.{slice_get_within}
-use Rattle.rx_base.specs.declared.ids.PlaceId.{PlaceId}
-use Rattle.rx_base.specs.declared.ids.TaskId.{TaskId}
+use Rattle.rx_rules.proofs.Common.{PlaceId, TaskId, Block, Vars, Does, Local, Makes, Gets, Puts, Forgets, Opens, Calls, Spawns, Waits, Releases, Prints, Counts, Done, does, Tree, AllowedAct, made_act, State, vars_told, started_by, tree_of, Given, Game, Player, Turn, moves, turns, tree_in, child_of, acted as played}
 use Rattle.rx_base.proofs.Elements.{get-set}
 use Rattle.rx_rules.specs.declared.tasks.Task.{Task}
 use Rattle.rx_rules.specs.declared.entries.Act.{Act}
 use Rattle.rx_rules.specs.declared.entries.Entry.{Entry}
 use Rattle.rx_rules.specs.declared.entries.Entry.TheVariants.{Step}
 use Rattle.rx_rules.specs.declared.events.PlaceEvent.{PlaceEvent}
-use Rattle.rx_rules.specs.Code.{Block}
-use Rattle.rx_rules.specs.Terms.{Vars, Does, Local, Makes, Gets, Puts, Forgets, Opens, Calls, Spawns, Waits, Releases, Prints, Counts, Done, does}
 use Rattle.rx_rules.specs.declared.entries.Act.TheVariants.{Open, At as CallsAt, Spawn, Arrive, Wait, Release, End, Print, Census}
-use Rattle.rx_rules.specs.Tree.{Tree}
-use Rattle.rx_rules.specs.Entries.{AllowedAct, made_act}
-use Rattle.rx_rules.specs.Store.{State}
-use Rattle.rx_rules.specs.Plays.{Fits, vars_told, started_by}
-use Rattle.rx_rules.specs.Fold.{tree_of}
-use Rattle.rx_rules.specs.Run.{Given}
-use Rattle.rx_rules.specs.Picked.{Game, Player, Turn, moves, turns, tree_in, child_of, acted as played}
+use Rattle.rx_rules.specs.Plays.{Fits}
 use Rattle.rx_rules.proofs.Append.{tree-push}
 use Rattle.rx_history.specs.Logs.{Log}
 use Rattle.rx_history.specs.Setups.{given}

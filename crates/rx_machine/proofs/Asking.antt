@@ -1,16 +1,9 @@
 -- What the machine may ask of its chronicle.
-use Rattle.std.specs.Prelude.{List, ◌≡◌, ℕ, false, Some, None, refl}
-use Rattle.std.proofs.Common.{◌∙◌, sym, subst, inl}
-use Rattle.rx_base.specs.declared.ids.PlaceId.{PlaceId}
-use Rattle.rx_base.specs.declared.ids.TaskId.{TaskId}
+use Rattle.std.proofs.Common.{List, ◌≡◌, ℕ, false, Some, None, refl, ◌∙◌, sym, subst, inl}
+use Rattle.rx_rules.proofs.Common.{PlaceId, TaskId, Block, Does, Releases, does, Tree, task_of, Given, Game, Player}
 use Rattle.rx_base.proofs.SameIds.{task-is}
 use Rattle.rx_rules.specs.declared.tasks.Task.{Task}
 use Rattle.rx_rules.specs.declared.tasks.Where.TheVariants.{At}
-use Rattle.rx_rules.specs.Code.{Block}
-use Rattle.rx_rules.specs.Terms.{Does, Releases, does}
-use Rattle.rx_rules.specs.Tree.{Tree, task_of}
-use Rattle.rx_rules.specs.Run.{Given}
-use Rattle.rx_rules.specs.Picked.{Game, Player}
 use Rattle.rx_finish.specs.declared.ledger.LedgerFault.{LedgerFault}
 use Rattle.rx_finish.specs.declared.ledger.LedgerFault.TheVariants.{NoMemory}
 use Rattle.rx_finish.specs.Callers.{MayAsk, MayAskMoving, HasNumbers, IsMoving}

@@ -1,14 +1,9 @@
 -- A turn: what holds of the game before it, the task that the pick moves, and the root's release where none is enabled.
-use Rattle.std.specs.Prelude.{◌≡◌, ℕ, zero, suc, ◌+◌, ◌-◌, ◌*◌, ◌<◌, ◌≤◌, ◌%◌, List, [], ◌∷◌, length, Option, Some, slice_get, true}
-use Rattle.std.proofs.Common.{ap, ◌∙◌, sym, subst, arith}
+use Rattle.std.proofs.Common.{◌≡◌, ℕ, zero, suc, ◌+◌, ◌-◌, ◌*◌, ◌<◌, ◌≤◌, ◌%◌, List, [], ◌∷◌, length, Option, Some, slice_get, true, ap, ◌∙◌, sym, subst, arith}
 use Rattle.rx_rules.specs.declared.entries.Entry.{Entry}
 use Rattle.rx_base.proofs.Elements.{empty-from}
 use Rattle.rx_rules.specs.declared.tasks.Task.{Task}
-use Rattle.rx_rules.specs.Code.{Block, work}
-use Rattle.rx_rules.specs.Tree.{Tree, quiet, the_root}
-use Rattle.rx_rules.specs.Entries.{without}
-use Rattle.rx_rules.specs.Run.{Given, Proper, Event, plan_of, NoRoot, NoneDue, IsDue}
-use Rattle.rx_rules.specs.Picked.{Game, enabled, tree_in}
+use Rattle.rx_rules.proofs.Common.{Block, work, Tree, quiet, the_root, without, Given, Proper, Event, plan_of, NoRoot, NoneDue, IsDue, Game, enabled, tree_in}
 use Rattle.rx_sound.specs.Sound.{ReachedSound}
 use Rattle.rx_sound.specs.Histories.{FoldReached}
 use Rattle.rx_sound.specs.Enabling.{IdleIsQuiet}

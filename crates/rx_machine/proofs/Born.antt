@@ -1,13 +1,10 @@
 -- What an entry that starts a task makes of the game for which a machine stands.
-use Rattle.std.specs.Prelude.{◌≡◌, ◌≢◌, ℕ, suc, ◌+◌, ◌<◌, ◌≤◌, ◌==◌, Bool, true, false, cond, List, [], ◌∷◌, ◌++◌, length, map, filter, reverse, Option, Some, None, is_none, is_some, IfSome, option_map, slice_get, slice_set, refl}
+use Rattle.std.proofs.Common.{◌≡◌, ◌≢◌, ℕ, suc, ◌+◌, ◌<◌, ◌≤◌, ◌==◌, Bool, true, false, cond, List, [], ◌∷◌, ◌++◌, length, map, filter, reverse, Option, Some, None, is_none, is_some, IfSome, option_map, slice_get, slice_set, refl, ap, ◌∙◌, sym, subst, inl, inr, arith}
 use Rattle.std.specs.List.{find}
-use Rattle.std.proofs.Common.{ap, ◌∙◌, sym, subst, inl, inr, arith}
 use Rattle.std.proofs.lemmas.List.{length-set, length-append}
 use Rattle.std.proofs.lemmas.Bool.{eqb-true}
 use Rattle.std.proofs.lemmas.Option.{slice_get_within}
-use Rattle.rx_base.specs.declared.ids.PlaceId.{PlaceId}
-use Rattle.rx_base.specs.declared.ids.TaskId.{TaskId}
-use Rattle.rx_base.specs.declared.ids.ScopeId.{ScopeId}
+use Rattle.rx_rules.proofs.Common.{PlaceId, TaskId, ScopeId, Block, does, child, Tree, is_task, opened_by, death_of, AllowedAct, made_act, born, started_by, Given, Game, Player, Turn, tree_in, child_of, acted as played}
 use Rattle.rx_base.proofs.Options.{none-of}
 use Rattle.rx_base.proofs.Elements.{get-set, get-pushed}
 use Rattle.rx_rules.specs.declared.tasks.Task.{Task}
@@ -16,13 +13,7 @@ use Rattle.rx_rules.specs.declared.tasks.Kind.{Kind}
 use Rattle.rx_rules.specs.declared.tasks.Blow.{Blow}
 use Rattle.rx_rules.specs.declared.entries.Act.{Act}
 use Rattle.rx_rules.specs.declared.entries.Entry.TheVariants.{Step}
-use Rattle.rx_rules.specs.Code.{Block}
-use Rattle.rx_rules.specs.Terms.{does, child}
-use Rattle.rx_rules.specs.Tree.{Tree, is_task, opened_by, death_of}
-use Rattle.rx_rules.specs.Entries.{AllowedAct, made_act, born}
-use Rattle.rx_rules.specs.Plays.{Fits, started_by}
-use Rattle.rx_rules.specs.Run.{Given}
-use Rattle.rx_rules.specs.Picked.{Game, Player, Turn, tree_in, child_of, acted as played}
+use Rattle.rx_rules.specs.Plays.{Fits}
 use Rattle.rx_sound.specs.Chains.{Opened, HasOpener}
 use Rattle.rx_sound.specs.Sound.{Sound, TasksFall}
 use Rattle.rx_syntax.specs.Shape.{Shape}

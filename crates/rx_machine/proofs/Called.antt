@@ -1,10 +1,6 @@
 -- The store call of a task.
-use Rattle.std.specs.Prelude.{◌≡◌, ℕ, zero, suc, ◌+◌, ◌*◌, ◌^◌, ◌<◌, ◌≤◌, max, false, List, [], ◌∷◌, ◌++◌, reverse, length, Option, Some, None, Result, slice_get, slice_set, refl}
-use Rattle.std.proofs.Common.{ap, ◌∙◌, sym, subst, arith}
-use Rattle.rx_base.specs.declared.ids.PlaceId.{PlaceId}
-use Rattle.rx_base.specs.declared.ids.TaskId.{TaskId}
-use Rattle.rx_base.specs.declared.values.Value.{Value}
-use Rattle.rx_base.specs.declared.values.Fault.{Fault}
+use Rattle.std.proofs.Common.{◌≡◌, ℕ, zero, suc, ◌+◌, ◌*◌, ◌^◌, ◌<◌, ◌≤◌, max, false, List, [], ◌∷◌, ◌++◌, reverse, length, Option, Some, None, Result, slice_get, slice_set, refl, ap, ◌∙◌, sym, subst, arith}
+use Rattle.rx_rules.proofs.Common.{PlaceId, TaskId, Value, Fault, Block, work, items, at, Answer, answered, vars_after, answer_of, does, begins, receives, State, opening_state, MayCell, after_cell, Tells, begun, journal_at, Given, in_all, Proper, death_number, Game, Player, Goes, stays, local, stores, tree_in}
 use Rattle.rx_base.proofs.SameIds.{place-is}
 use Rattle.rx_base.proofs.Elements.{get-set}
 use Rattle.rx_rules.specs.declared.tasks.Task.{Task}
@@ -12,12 +8,6 @@ use Rattle.rx_rules.specs.declared.tasks.Where.TheVariants.{At as IsAt}
 use Rattle.rx_rules.specs.declared.events.Cell.{Cell}
 use Rattle.rx_rules.specs.declared.events.PlaceEvent.{PlaceEvent}
 use Rattle.rx_rules.specs.declared.events.PlaceEvent.TheVariants.{Done as Did, Close}
-use Rattle.rx_rules.specs.Code.{Block, work}
-use Rattle.rx_rules.specs.Terms.{items, at, Answer, answered, vars_after, answer_of, does, begins, receives}
-use Rattle.rx_rules.specs.Store.{State, opening_state, MayCell, after_cell}
-use Rattle.rx_rules.specs.Plays.{Tells, begun, journal_at}
-use Rattle.rx_rules.specs.Run.{Given, in_all, Proper, death_number}
-use Rattle.rx_rules.specs.Picked.{Game, Player, Goes, stays, local, stores, tree_in}
 use Rattle.rx_runs.specs.Steps.{steps, TermSinks}
 use Rattle.rx_runs.specs.Games.{Leads, rests, steps as more, NotAbove, JournalSo, GameOk}
 use Rattle.rx_runs.specs.Ties.{RowSo}

@@ -1,18 +1,10 @@
 -- The turn of a census.
-use Rattle.std.specs.Prelude.{◌≡◌, ℕ, false, reverse, List, [], Some, slice_set, refl, true}
-use Rattle.std.proofs.Common.{ap, ◌∙◌, sym, subst}
-use Rattle.rx_base.specs.declared.ids.PlaceId.{PlaceId}
-use Rattle.rx_base.specs.declared.ids.TaskId.{TaskId}
+use Rattle.std.proofs.Common.{◌≡◌, ℕ, false, reverse, List, [], Some, slice_set, refl, true, ap, ◌∙◌, sym, subst}
+use Rattle.rx_rules.proofs.Common.{PlaceId, TaskId, Block, Vars, does, begins, granted, Counts, Does, Tree, inner, AllowedAct, vars_told, Given, Game, Player, Turn, tree_in}
 use Rattle.rx_rules.specs.declared.tasks.Task.{Task}
 use Rattle.rx_rules.specs.declared.entries.Act.{Act}
 use Rattle.rx_rules.specs.declared.entries.Act.TheVariants.{Census}
-use Rattle.rx_rules.specs.Code.{Block}
-use Rattle.rx_rules.specs.Terms.{Vars, does, begins, granted, Counts, Does}
-use Rattle.rx_rules.specs.Tree.{Tree, inner}
-use Rattle.rx_rules.specs.Entries.{AllowedAct}
-use Rattle.rx_rules.specs.Plays.{Fits, vars_told}
-use Rattle.rx_rules.specs.Run.{Given}
-use Rattle.rx_rules.specs.Picked.{Game, Player, Turn, tree_in}
+use Rattle.rx_rules.specs.Plays.{Fits}
 use Rattle.rx_chronicle.specs.Requests.{Granted}
 use Rattle.rx_syntax.specs.Shape.{Shape}
 use Rattle.rx_control.specs.Stands.{StandsFor}

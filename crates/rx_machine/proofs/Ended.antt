@@ -1,23 +1,15 @@
 -- The turn that ends a task.
-use Rattle.std.specs.Prelude.{◌≡◌, ℕ, Bool, true, false, cond, map, filter, reverse, List, [], ◌∷◌, ◌++◌, length, Option, Some, None, slice_get, slice_set, refl}
+use Rattle.std.proofs.Common.{◌≡◌, ℕ, Bool, true, false, cond, map, filter, reverse, List, [], ◌∷◌, ◌++◌, length, Option, Some, None, slice_get, slice_set, refl, ap, ◌∙◌, sym, subst, inl, inr}
 use Rattle.std.specs.List.{find}
-use Rattle.std.proofs.Common.{ap, ◌∙◌, sym, subst, inl, inr}
 use Rattle.std.proofs.lemmas.List.{reverse-reverse}
-use Rattle.rx_base.specs.declared.ids.PlaceId.{PlaceId}
-use Rattle.rx_base.specs.declared.ids.TaskId.{TaskId}
-use Rattle.rx_base.specs.declared.values.Fault.{Fault}
+use Rattle.rx_rules.proofs.Common.{PlaceId, TaskId, Fault, Block, does, Done, Does, Tree, task_of, own_scope, opened_by, AllowedAct, made_act, after_end, Given, Game, Player, Turn, turns, tree_in}
 use Rattle.rx_rules.specs.declared.entries.Act.TheVariants.{End}
 use Rattle.rx_rules.specs.declared.entries.Entry.{Entry}
 use Rattle.rx_rules.specs.declared.entries.Entry.TheVariants.{Step}
 use Rattle.rx_rules.specs.declared.tasks.Task.{Task}
 use Rattle.rx_rules.specs.declared.tasks.Scope.{Scope}
 use Rattle.rx_rules.specs.declared.tasks.Kind.{Kind}
-use Rattle.rx_rules.specs.Code.{Block}
-use Rattle.rx_rules.specs.Terms.{does, Done, Does}
-use Rattle.rx_rules.specs.Tree.{Tree, task_of, own_scope, opened_by}
-use Rattle.rx_rules.specs.Entries.{AllowedAct, made_act, after_end}
-use Rattle.rx_rules.specs.Run.{Given}
-use Rattle.rx_rules.specs.Picked.{Game, Player, Turn, ends, turns, tree_in}
+use Rattle.rx_rules.specs.Picked.{ends}
 use Rattle.rx_rules.proofs.Append.{tree-push}
 use Rattle.rx_finish.specs.Callers.{IsBare, MayAskEnd}
 use Rattle.rx_history.specs.Logs.{Log}

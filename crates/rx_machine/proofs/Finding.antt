@@ -1,9 +1,8 @@
 -- What is found in a list of which one element was changed, added or taken out.
-use Rattle.std.specs.Prelude.{◌≡◌, ◌≢◌, ◌⊎◌, ℕ, zero, suc, ◌<◌, Bool, true, false, cond, not, ◌==◌, List, [], ◌∷◌, ◌++◌, length, map, filter, Some, None, option_map, slice_get, slice_set, refl}
+use Rattle.std.proofs.Common.{◌≡◌, ◌≢◌, ◌⊎◌, ℕ, zero, suc, ◌<◌, Bool, true, false, cond, not, ◌==◌, List, [], ◌∷◌, ◌++◌, length, map, filter, Some, None, option_map, slice_get, slice_set, refl, ap, arith, inl, inr}
 use Rattle.std.specs.List.{find}
-use Rattle.std.proofs.Common.{ap, arith, inl, inr}
 use Rattle.std.proofs.lemmas.Bool.{eqb-true, eq-eqb}
-use Rattle.rx_rules.specs.Entries.{change_first}
+use Rattle.rx_rules.proofs.Common.{change_first}
 
 -- a test that the changed element does not pass finds what it found
 pub find_other : {X : Type 0} (p q : X → Bool) (f : X → X) (xs : List X) → ((x : X) → q x ≡ true → p x ≡ false) → ((x : X) → p (f x) ≡ p x) → find p (change_first q f xs) ≡ find p xs

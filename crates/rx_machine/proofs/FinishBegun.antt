@@ -1,22 +1,13 @@
 -- The turn that begins a finish.
-use Rattle.std.specs.Prelude.{◌≡◌, ℕ, false, List, [], ◌∷◌, ◌++◌, reverse, Some, slice_set, refl, true}
-use Rattle.std.proofs.Common.{ap, ◌∙◌, sym, subst}
+use Rattle.std.proofs.Common.{◌≡◌, ℕ, false, List, [], ◌∷◌, ◌++◌, reverse, Some, slice_set, refl, true, ap, ◌∙◌, sym, subst}
 use Rattle.std.proofs.lemmas.List.{reverse-append}
-use Rattle.rx_base.specs.declared.ids.PlaceId.{PlaceId}
-use Rattle.rx_base.specs.declared.ids.TaskId.{TaskId}
-use Rattle.rx_base.specs.declared.ids.ScopeId.{ScopeId}
+use Rattle.rx_rules.proofs.Common.{PlaceId, TaskId, ScopeId, Block, does, begins, granted, Opens, Does, Tree, AllowedAct, opened, Given, Game, Player, Turn, tree_in}
 use Rattle.rx_rules.specs.declared.tasks.Task.{Task}
 use Rattle.rx_rules.specs.declared.tasks.Kind.{Kind}
 use Rattle.rx_rules.specs.declared.tasks.Kind.TheVariants.{Finish}
 use Rattle.rx_rules.specs.declared.entries.Act.{Act}
 use Rattle.rx_rules.specs.declared.entries.Act.TheVariants.{Open}
-use Rattle.rx_rules.specs.Code.{Block}
-use Rattle.rx_rules.specs.Terms.{does, begins, granted, Opens, Does}
-use Rattle.rx_rules.specs.Tree.{Tree}
-use Rattle.rx_rules.specs.Entries.{AllowedAct, opened}
 use Rattle.rx_rules.specs.Plays.{Fits}
-use Rattle.rx_rules.specs.Run.{Given}
-use Rattle.rx_rules.specs.Picked.{Game, Player, Turn, tree_in}
 use Rattle.rx_chronicle.specs.Requests.{Granted}
 use Rattle.rx_syntax.specs.Shape.{Shape}
 use Rattle.rx_control.specs.Stands.{StandsFor}

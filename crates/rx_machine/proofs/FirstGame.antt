@@ -1,14 +1,8 @@
 -- What a machine holds before the first turn.
-use Rattle.std.specs.Prelude.{◌≡◌, ◌≢◌, ◌==◌, ℕ, zero, suc, ◌≤◌, ◌||◌, Bool, true, false, cond, List, [], ◌∷◌, length, replicate, Option, Some, None, refl}
-use Rattle.std.proofs.Common.{ap, ◌∙◌, sym, subst, arith}
+use Rattle.std.proofs.Common.{◌≡◌, ◌≢◌, ◌==◌, ℕ, zero, suc, ◌≤◌, ◌||◌, Bool, true, false, cond, List, [], ◌∷◌, length, replicate, Option, Some, None, refl, ap, ◌∙◌, sym, subst, arith}
 use Rattle.std.proofs.lemmas.Bool.{ne_eqb}
 use Rattle.rx_rules.specs.declared.tasks.Task.{Task}
-use Rattle.rx_rules.specs.Code.{Block}
-use Rattle.rx_rules.specs.Terms.{Empty, items, no_vars}
-use Rattle.rx_rules.specs.Tree.{inner, the_root}
-use Rattle.rx_rules.specs.Fold.{opening}
-use Rattle.rx_rules.specs.Run.{Given, in_all}
-use Rattle.rx_rules.specs.Picked.{Player, Comes, start_game, tree_in}
+use Rattle.rx_rules.proofs.Common.{Block, Empty, items, no_vars, inner, the_root, opening, Given, in_all, Player, Comes, start_game, tree_in}
 use Rattle.rx_history.specs.Setups.{given}
 use Rattle.rx_syntax.specs.Shape.{Shape}
 use Rattle.rx_machine.specs.declared.machine.Machine.{Machine}

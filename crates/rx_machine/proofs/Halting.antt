@@ -1,12 +1,8 @@
 -- What is told when a turn is refused is told by the turn.
-use Rattle.std.specs.Prelude.{◌≡◌, ℕ, zero, suc, ◌%◌, Bool, true, List, [], ◌∷◌, ◌++◌, map, length, Option, Some, Result, slice_get, slice_set, refl}
-use Rattle.std.proofs.Common.{ap, ◌∙◌, sym, subst, inl, inr}
+use Rattle.std.proofs.Common.{◌≡◌, ℕ, zero, suc, ◌%◌, Bool, true, List, [], ◌∷◌, ◌++◌, map, length, Option, Some, Result, slice_get, slice_set, refl, ap, ◌∙◌, sym, subst, inl, inr}
 use Rattle.std.proofs.lemmas.List.{append-nil, append_assoc}
 use mathlib.Core.List.{IsPrefix}
-use Rattle.rx_base.specs.declared.ids.PlaceId.{PlaceId}
-use Rattle.rx_base.specs.declared.ids.TaskId.{TaskId}
-use Rattle.rx_base.specs.declared.values.Value.{Value}
-use Rattle.rx_base.specs.declared.values.Fault.{Fault}
+use Rattle.rx_rules.proofs.Common.{PlaceId, TaskId, Value, Fault, Block, Term, Vars, Answer, answered, vars_after, begins, Local, does, Tree, task_of, State, after_cell, Tells, begun, journal_at, AllowedAct, Given, Proper, NoRoot, Game, Player, Turn, planned as due, arrives, moves, root, Comes, Goes, stays, local, stores, enabled, tree_in}
 use Rattle.rx_base.proofs.Elements.{not-empty}
 use Rattle.rx_rules.specs.declared.tasks.Task.{Task}
 use Rattle.rx_rules.specs.declared.tasks.Where.TheVariants.{At, Travel}
@@ -16,14 +12,7 @@ use Rattle.rx_rules.specs.declared.entries.Act.TheVariants.{Arrive, End}
 use Rattle.rx_rules.specs.declared.events.Cell.{Cell}
 use Rattle.rx_rules.specs.declared.events.PlaceEvent.{PlaceEvent}
 use Rattle.rx_rules.specs.declared.events.PlaceEvent.TheVariants.{Done as Did, Close}
-use Rattle.rx_rules.specs.Code.{Block}
-use Rattle.rx_rules.specs.Terms.{Term, Vars, Answer, answered, vars_after, begins, Local, does}
-use Rattle.rx_rules.specs.Tree.{Tree, task_of}
-use Rattle.rx_rules.specs.Store.{State, after_cell}
-use Rattle.rx_rules.specs.Plays.{Tells, begun, journal_at}
-use Rattle.rx_rules.specs.Entries.{AllowedAct}
-use Rattle.rx_rules.specs.Run.{Given, Proper, NoRoot}
-use Rattle.rx_rules.specs.Picked.{Game, Player, Turn, due, arrives, moves, ends, root, Comes, Goes, stays, local, stores, enabled, tree_in}
+use Rattle.rx_rules.specs.Picked.{ends}
 use Rattle.rx_rules.proofs.Kills.{due-not}
 use Rattle.rx_runs.specs.Coming.{GoesOn}
 use Rattle.rx_runs.proofs.Walks.{IsLast, fits_last, tells_not}

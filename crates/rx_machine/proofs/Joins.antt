@@ -1,14 +1,8 @@
 -- The turn of a join.
-use Rattle.std.specs.Prelude.{◌≡◌, ℕ, false, List, [], ◌∷◌, ◌++◌, refl}
-use Rattle.std.proofs.Common.{ap, ◌∙◌, sym, subst}
-use Rattle.rx_base.specs.declared.ids.PlaceId.{PlaceId}
+use Rattle.std.proofs.Common.{◌≡◌, ℕ, false, List, [], ◌∷◌, ◌++◌, refl, ap, ◌∙◌, sym, subst}
+use Rattle.rx_rules.proofs.Common.{PlaceId, Block, Tree, widened, Given, rest_of, Game, Turn, planned as due_turn, turns, tree_in}
 use Rattle.rx_rules.specs.declared.entries.Entry.{Entry}
 use Rattle.rx_rules.specs.declared.entries.Entry.TheVariants.{Join}
-use Rattle.rx_rules.specs.Code.{Block}
-use Rattle.rx_rules.specs.Tree.{Tree}
-use Rattle.rx_rules.specs.Entries.{widened}
-use Rattle.rx_rules.specs.Run.{Given, rest_of}
-use Rattle.rx_rules.specs.Picked.{Game, Turn, due as due_turn, turns, tree_in}
 use Rattle.rx_rules.proofs.Append.{no_root-push, tree-push}
 use Rattle.rx_history.specs.Logs.{Log}
 use Rattle.rx_history.specs.Setups.{given}

@@ -1,11 +1,6 @@
 -- What a task knows of places that acts.
-use Rattle.std.specs.Prelude.{◌≡◌, ℕ, ◌≤◌, length}
-use Rattle.std.proofs.Common.{arith}
-use Rattle.rx_base.specs.declared.ids.PlaceId.{PlaceId}
-use Rattle.rx_rules.specs.Code.{Block}
-use Rattle.rx_rules.specs.Plays.{journal_at}
-use Rattle.rx_rules.specs.Run.{Given, in_all, Proper, NoRoot}
-use Rattle.rx_rules.specs.Picked.{Game, Player, Comes, tree_in}
+use Rattle.std.proofs.Common.{◌≡◌, ℕ, ◌≤◌, length, arith}
+use Rattle.rx_rules.proofs.Common.{PlaceId, Block, journal_at, Given, in_all, Proper, NoRoot, Game, Player, Comes, tree_in}
 use Rattle.rx_rules.proofs.Append.{tree-places}
 use Rattle.rx_runs.specs.Coming.{GamesCome}
 use Rattle.rx_runs.specs.Knowing.{ComesKnowing, GoesKnowing}

@@ -1,20 +1,13 @@
 -- The turn of an arrival, and the root's release.
-use Rattle.std.specs.Prelude.{◌≡◌, ℕ, true, List, [], ◌∷◌, ◌++◌, length, filter, reverse, Option, Some, slice_set, refl, false}
-use Rattle.std.proofs.Common.{ap, ◌∙◌, sym, subst, inl, inr}
+use Rattle.std.proofs.Common.{◌≡◌, ℕ, true, List, [], ◌∷◌, ◌++◌, length, filter, reverse, Option, Some, slice_set, refl, false, ap, ◌∙◌, sym, subst, inl, inr}
 use Rattle.std.proofs.lemmas.List.{length-set}
-use Rattle.rx_base.specs.declared.ids.PlaceId.{PlaceId}
-use Rattle.rx_base.specs.declared.ids.TaskId.{TaskId}
+use Rattle.rx_rules.proofs.Common.{PlaceId, TaskId, Block, Tree, inner, the_root, quiet, AllowedAct, Allowed, made_act, without, Given, NoRoot, Game, Turn, arrives, root, turns, is_enabled, enabled, tree_in}
 use Rattle.rx_rules.specs.declared.tasks.Task.{Task}
 use Rattle.rx_rules.specs.declared.tasks.Where.{Where}
 use Rattle.rx_rules.specs.declared.tasks.Where.TheVariants.{At}
 use Rattle.rx_rules.specs.declared.entries.Act.TheVariants.{Arrive}
 use Rattle.rx_rules.specs.declared.entries.Entry.{Entry}
 use Rattle.rx_rules.specs.declared.entries.Entry.TheVariants.{Step, Root}
-use Rattle.rx_rules.specs.Code.{Block}
-use Rattle.rx_rules.specs.Tree.{Tree, inner, the_root, quiet}
-use Rattle.rx_rules.specs.Entries.{AllowedAct, Allowed, made_act, without}
-use Rattle.rx_rules.specs.Run.{Given, NoRoot}
-use Rattle.rx_rules.specs.Picked.{Game, Turn, arrives, root, turns, is_enabled, enabled, tree_in}
 use Rattle.rx_rules.proofs.Append.{root-push, tree-push}
 use Rattle.rx_finish.specs.declared.ledger.LedgerFault.{LedgerFault}
 use Rattle.rx_finish.specs.declared.ledger.LedgerFault.TheVariants.{NotYet, Lost, NoMemory}

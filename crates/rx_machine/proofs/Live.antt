@@ -1,14 +1,10 @@
 -- The unstruck tasks of a tree after each kind of change.
-use Rattle.std.specs.Prelude.{◌≡◌, ◌≢◌, ℕ, ◌<◌, ◌≤◌, Bool, true, false, cond, not, ◌&&◌, ◌==◌, List, [], ◌∷◌, filter, map, Option, Some, None, is_none, is_some, option_map, refl}
+use Rattle.std.proofs.Common.{◌≡◌, ◌≢◌, ℕ, ◌<◌, ◌≤◌, Bool, true, false, cond, not, ◌&&◌, ◌==◌, List, [], ◌∷◌, filter, map, Option, Some, None, is_none, is_some, option_map, refl, ap, ◌∙◌, sym, subst, arith}
 use Rattle.std.specs.List.{find}
-use Rattle.std.proofs.Common.{ap, ◌∙◌, sym, subst, arith}
 use Rattle.std.proofs.lemmas.Bool.{eqb-true, eq-eqb, ne_eqb}
-use Rattle.rx_base.specs.declared.ids.TaskId.{TaskId}
-use Rattle.rx_base.specs.declared.ids.ScopeId.{ScopeId}
+use Rattle.rx_rules.proofs.Common.{TaskId, ScopeId, Tree, is_task, task_of, is_under, change_task, add_task, without, hit, is_hit}
 use Rattle.rx_rules.specs.declared.tasks.Task.{Task}
 use Rattle.rx_rules.specs.declared.tasks.Blow.{Blow}
-use Rattle.rx_rules.specs.Tree.{Tree, is_task, task_of, is_under}
-use Rattle.rx_rules.specs.Entries.{change_task, add_task, without, hit, is_hit}
 use Rattle.rx_sound.specs.Sound.{TasksFall}
 use Rattle.rx_machine.specs.Slots.{live_task, live_in, if_unstruck}
 use Rattle.rx_machine.proofs.Finding.{find_other, find_same, find_none, find_left, find_mapped}

@@ -1,18 +1,12 @@
 -- The own scopes of tasks after each kind of change, and slots that a change leaves as they were.
-use Rattle.std.specs.Prelude.{◌<◌, length, ◌≡◌, ◌≢◌, ℕ, Bool, true, false, cond, ◌==◌, List, [], ◌∷◌, ◌++◌, map, filter, reverse, Option, Some, None, slice_get, refl}
+use Rattle.std.proofs.Common.{◌<◌, length, ◌≡◌, ◌≢◌, ℕ, Bool, true, false, cond, ◌==◌, List, [], ◌∷◌, ◌++◌, map, filter, reverse, Option, Some, None, slice_get, refl, ap, ◌∙◌, sym, subst, arith}
 use Rattle.std.specs.List.{find}
-use Rattle.std.proofs.Common.{ap, ◌∙◌, sym, subst, arith}
 use Rattle.std.proofs.lemmas.Bool.{eq-eqb, ne_eqb}
-use Rattle.rx_base.specs.declared.ids.TaskId.{TaskId}
-use Rattle.rx_base.specs.declared.ids.ScopeId.{ScopeId}
-use Rattle.rx_base.specs.declared.values.Fault.{Fault}
+use Rattle.rx_rules.proofs.Common.{TaskId, ScopeId, Fault, Tree, task_of, inner, opened_by, change_first, change_scope, opened, after_end, Player}
 use Rattle.rx_base.proofs.SameIds.{task-is}
 use Rattle.rx_rules.specs.declared.tasks.Task.{Task}
 use Rattle.rx_rules.specs.declared.tasks.Scope.{Scope}
 use Rattle.rx_rules.specs.declared.tasks.Kind.{Kind}
-use Rattle.rx_rules.specs.Tree.{Tree, task_of, inner, opened_by}
-use Rattle.rx_rules.specs.Entries.{change_first, change_scope, opened, after_end}
-use Rattle.rx_rules.specs.Picked.{Player}
 use Rattle.rx_syntax.specs.Shape.{Shape}
 use Rattle.rx_machine.specs.declared.seat.Seat.{Seat}
 use Rattle.rx_machine.specs.Slots.{row_of, live_task, own_kinds, SlotIs, IsWork}

@@ -1,18 +1,10 @@
 -- The turn of a print.
-use Rattle.std.specs.Prelude.{◌≡◌, ℕ, ℤ, false, reverse, List, [], Some, slice_set, refl, true}
-use Rattle.std.proofs.Common.{ap, ◌∙◌, sym, subst}
-use Rattle.rx_base.specs.declared.ids.PlaceId.{PlaceId}
-use Rattle.rx_base.specs.declared.ids.TaskId.{TaskId}
+use Rattle.std.proofs.Common.{◌≡◌, ℕ, ℤ, false, reverse, List, [], Some, slice_set, refl, true, ap, ◌∙◌, sym, subst}
+use Rattle.rx_rules.proofs.Common.{PlaceId, TaskId, Block, does, begins, granted, Prints, Does, Tree, inner, AllowedAct, Given, Game, Player, Turn, tree_in}
 use Rattle.rx_rules.specs.declared.tasks.Task.{Task}
 use Rattle.rx_rules.specs.declared.entries.Act.{Act}
 use Rattle.rx_rules.specs.declared.entries.Act.TheVariants.{Print}
-use Rattle.rx_rules.specs.Code.{Block}
-use Rattle.rx_rules.specs.Terms.{does, begins, granted, Prints, Does}
-use Rattle.rx_rules.specs.Tree.{Tree, inner}
-use Rattle.rx_rules.specs.Entries.{AllowedAct}
 use Rattle.rx_rules.specs.Plays.{Fits}
-use Rattle.rx_rules.specs.Run.{Given}
-use Rattle.rx_rules.specs.Picked.{Game, Player, Turn, tree_in}
 use Rattle.rx_chronicle.specs.Requests.{Granted}
 use Rattle.rx_syntax.specs.Shape.{Shape}
 use Rattle.rx_control.specs.Stands.{StandsFor}

@@ -1,7 +1,6 @@
 -- What a checked script gives to a run.
-use Rattle.std.specs.Prelude.{◌≤◌}
-use Rattle.rx_rules.specs.Code.{Block, work}
-use Rattle.rx_rules.specs.Run.{Given, Proper}
+use Rattle.std.proofs.Common.{◌≤◌}
+use Rattle.rx_rules.proofs.Common.{Block, work, Given, Proper}
 use Rattle.rx_syntax.specs.Grammar.{AllInRange}
 use Rattle.rx_control.proofs.SomeWords.{makes-some}
 use Rattle.rx_machine.specs.Holds.{RunsOn}

@@ -1,10 +1,8 @@
 -- Ascending lists of the numbers of enabled tasks.
-use Rattle.std.specs.Prelude.{◌≡◌, ◌≢◌, ℕ, zero, suc, ◌+◌, ◌<◌, ◌≤◌, ◌==◌, ltb, eqb, Bool, true, false, cond, not, ◌&&◌, ◌||◌, List, [], ◌∷◌, Option, Some, None, is_none, refl}
-use Rattle.std.proofs.Common.{ap, ◌∙◌, sym, subst, arith, inl, inr}
+use Rattle.std.proofs.Common.{◌≡◌, ◌≢◌, ℕ, zero, suc, ◌+◌, ◌<◌, ◌≤◌, ◌==◌, ltb, eqb, Bool, true, false, cond, not, ◌&&◌, ◌||◌, List, [], ◌∷◌, Option, Some, None, is_none, refl, ap, ◌∙◌, sym, subst, arith, inl, inr}
 use Rattle.std.proofs.lemmas.Bool.{cases_lt, cond-true, cond-false, lt-ltb, le-ltb, eqb-true, eq-eqb, ne_eqb, true≢false}
 use Rattle.rx_rules.specs.declared.tasks.Task.{Task}
-use Rattle.rx_rules.specs.Tree.{Tree, task_of, quiet, inner}
-use Rattle.rx_rules.specs.Picked.{Player}
+use Rattle.rx_rules.proofs.Common.{Tree, task_of, quiet, inner, Player}
 use Rattle.rx_rank.specs.Numbers.{Ascends, inserted, removed, marked}
 use Rattle.rx_sound.specs.Sound.{Sound}
 use Rattle.rx_sound.specs.Enabling.{able, able_in}

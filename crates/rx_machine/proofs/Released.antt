@@ -1,24 +1,13 @@
 -- The turn that releases a scope.
-use Rattle.std.specs.Prelude.{◌≡◌, ℕ, zero, suc, Bool, true, false, cond, not, ◌&&◌, ◌||◌, map, filter, reverse, List, [], ◌∷◌, ◌++◌, Some, is_none, slice_get, slice_set, refl}
-use Rattle.std.proofs.Common.{ap, ◌∙◌, sym, subst}
+use Rattle.std.proofs.Common.{◌≡◌, ℕ, zero, suc, Bool, true, false, cond, not, ◌&&◌, ◌||◌, map, filter, reverse, List, [], ◌∷◌, ◌++◌, Some, is_none, slice_get, slice_set, refl, ap, ◌∙◌, sym, subst}
 use Rattle.std.proofs.lemmas.List.{reverse-append, reverse-reverse}
-use Rattle.rx_base.specs.declared.ids.PlaceId.{PlaceId}
-use Rattle.rx_base.specs.declared.ids.TaskId.{TaskId}
-use Rattle.rx_base.specs.declared.ids.ScopeId.{ScopeId}
-use Rattle.rx_base.specs.declared.place_set.PlaceSet.{PlaceSet}
-use Rattle.rx_base.specs.declared.values.Fault.{Fault}
+use Rattle.rx_rules.proofs.Common.{PlaceId, TaskId, ScopeId, PlaceSet, Fault, Block, does, granted, Releases, Does, Tree, task_of, own_scope, opened_by, inner, quiet, AllowedAct, made_act, without, resumed, raised_by, Given, Game, Player, Turn, tree_in, is_enabled}
 use Rattle.rx_rules.specs.declared.entries.Act.{Act}
 use Rattle.rx_rules.specs.declared.entries.Act.TheVariants.{Release}
 use Rattle.rx_rules.specs.declared.entries.Entry.{Entry}
 use Rattle.rx_rules.specs.declared.tasks.Task.{Task}
 use Rattle.rx_rules.specs.declared.tasks.Kind.{Kind}
-use Rattle.rx_rules.specs.Code.{Block}
-use Rattle.rx_rules.specs.Terms.{does, granted, Releases, Does}
-use Rattle.rx_rules.specs.Tree.{Tree, task_of, own_scope, opened_by, inner, quiet}
-use Rattle.rx_rules.specs.Entries.{AllowedAct, made_act, without, resumed}
-use Rattle.rx_rules.specs.Plays.{Fits, raised_by}
-use Rattle.rx_rules.specs.Run.{Given}
-use Rattle.rx_rules.specs.Picked.{Game, Player, Turn, tree_in, is_enabled}
+use Rattle.rx_rules.specs.Plays.{Fits}
 use Rattle.rx_sound.specs.Sound.{ReachedSound, TasksFall}
 use Rattle.rx_sound.specs.Owning.{ReleaseKeeps, ReleasePops}
 use Rattle.rx_runs.specs.Coming.{CameTo, GamesCome}

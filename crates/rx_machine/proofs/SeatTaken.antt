@@ -1,19 +1,12 @@
 -- The start of a turn: the seat of the task that moves is taken out of its slot.
-use Rattle.std.specs.Prelude.{◌≡◌, ℕ, ◌<◌, ◌≤◌, Bool, List, [], length, Option, Some, None, slice_get, slice_set}
-use Rattle.std.proofs.Common.{arith, ap, ◌∙◌, sym, subst}
+use Rattle.std.proofs.Common.{◌≡◌, ℕ, ◌<◌, ◌≤◌, Bool, List, [], length, Option, Some, None, slice_get, slice_set, arith, ap, ◌∙◌, sym, subst}
 use Rattle.std.proofs.lemmas.List.{length-set}
-use Rattle.rx_base.specs.declared.ids.PlaceId.{PlaceId}
+use Rattle.rx_rules.proofs.Common.{PlaceId, Block, Tree, inner, journal_at, Reached, Given, in_all, Game, Player, stays, tree_in}
 use Rattle.rx_base.proofs.Elements.{get-set}
 use Rattle.rx_rules.specs.declared.tasks.Task.{Task}
 use Rattle.rx_rules.specs.declared.tasks.Where.{Where}
 use Rattle.rx_rules.specs.declared.tasks.Where.TheVariants.{At, Travel}
 use Rattle.rx_rules.specs.declared.events.PlaceEvent.{PlaceEvent}
-use Rattle.rx_rules.specs.Code.{Block}
-use Rattle.rx_rules.specs.Tree.{Tree, inner}
-use Rattle.rx_rules.specs.Plays.{journal_at}
-use Rattle.rx_rules.specs.Reached.{Reached}
-use Rattle.rx_rules.specs.Run.{Given, in_all}
-use Rattle.rx_rules.specs.Picked.{Game, Player, stays, tree_in}
 use Rattle.rx_sound.specs.Sound.{Sound, Inside}
 use Rattle.rx_sound.proofs.Reach.{fits_of}
 use Rattle.rx_runs.specs.Coming.{CameTo, GamesCome}

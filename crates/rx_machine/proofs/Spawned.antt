@@ -1,23 +1,14 @@
 -- The turns that start a task.
-use Rattle.std.specs.Prelude.{slice_get, length, ◌≡◌, ◌≢◌, ℕ, ◌<◌, false, is_none, is_some, IfSome, reverse, List, [], ◌∷◌, ◌++◌, Option, Some, None, slice_set, refl, true}
-use Rattle.std.proofs.Common.{ap, ◌∙◌, sym, subst, arith}
+use Rattle.std.proofs.Common.{slice_get, length, ◌≡◌, ◌≢◌, ℕ, ◌<◌, false, is_none, is_some, IfSome, reverse, List, [], ◌∷◌, ◌++◌, Option, Some, None, slice_set, refl, true, ap, ◌∙◌, sym, subst, arith}
 use Rattle.std.proofs.lemmas.List.{reverse-append}
-use Rattle.rx_base.specs.declared.ids.PlaceId.{PlaceId}
-use Rattle.rx_base.specs.declared.ids.TaskId.{TaskId}
-use Rattle.rx_base.specs.declared.ids.ScopeId.{ScopeId}
+use Rattle.rx_rules.proofs.Common.{PlaceId, TaskId, ScopeId, Block, does, begins, granted, child, Spawns, Calls, Releases, Does, Tree, inner, death_of, AllowedAct, born, add_task, change_task, opened, waiting, place_number, Given, Game, Player, Turn, tree_in}
 use Rattle.rx_rules.specs.declared.tasks.Task.{Task}
 use Rattle.rx_rules.specs.declared.tasks.Kind.{Kind}
 use Rattle.rx_rules.specs.declared.tasks.Kind.TheVariants.{Call}
 use Rattle.rx_rules.specs.declared.entries.Act.{Act}
 use Rattle.rx_rules.specs.declared.entries.Act.TheVariants.{Spawn, At as CallsAt}
 use Rattle.rx_rules.specs.declared.tasks.Where.{Where}
-use Rattle.rx_rules.specs.Code.{Block}
-use Rattle.rx_rules.specs.Terms.{does, begins, granted, child, Spawns, Calls, Releases, Does}
-use Rattle.rx_rules.specs.Tree.{Tree, inner, death_of}
-use Rattle.rx_rules.specs.Entries.{AllowedAct, born, add_task, change_task, opened, waiting, place_number}
 use Rattle.rx_rules.specs.Plays.{Fits}
-use Rattle.rx_rules.specs.Run.{Given}
-use Rattle.rx_rules.specs.Picked.{Game, Player, Turn, tree_in}
 use Rattle.rx_sound.specs.Sound.{Sound}
 use Rattle.rx_runs.specs.Knowing.{ComesKnowing, GoesKnowing}
 use Rattle.rx_syntax.specs.Shape.{Shape}

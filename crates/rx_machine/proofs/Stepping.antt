@@ -1,19 +1,10 @@
 -- One step more of a task that makes its turn.
-use Rattle.std.specs.Prelude.{◌≡◌, ℕ, ◌+◌, ◌*◌, ◌≤◌, Bool, false, List, [], ◌∷◌, ◌++◌, reverse, length, Some, None, slice_set, refl}
-use Rattle.std.proofs.Common.{ap, ◌∙◌, sym, subst, arith}
-use Rattle.rx_base.specs.declared.ids.PlaceId.{PlaceId}
-use Rattle.rx_base.specs.declared.ids.TaskId.{TaskId}
+use Rattle.std.proofs.Common.{◌≡◌, ℕ, ◌+◌, ◌*◌, ◌≤◌, Bool, false, List, [], ◌∷◌, ◌++◌, reverse, length, Some, None, slice_set, refl, ap, ◌∙◌, sym, subst, arith}
+use Rattle.rx_rules.proofs.Common.{PlaceId, TaskId, Block, work, Term, Vars, Answer, answered, vars_after, Does, Local, Makes, Gets, Puts, Forgets, Opens, Calls, Spawns, Waits, Releases, Prints, Counts, Done, does, begins, Tree, inner, State, MayCell, after_cell, Tells, begun, journal_at, Given, Game, Player, Goes, stays, local, stores, tree_in}
 use Rattle.rx_rules.specs.declared.tasks.Task.{Task}
 use Rattle.rx_rules.specs.declared.events.Cell.{Cell}
 use Rattle.rx_rules.specs.declared.events.PlaceEvent.{PlaceEvent}
 use Rattle.rx_rules.specs.declared.events.PlaceEvent.TheVariants.{Done as Did}
-use Rattle.rx_rules.specs.Code.{Block, work}
-use Rattle.rx_rules.specs.Terms.{Term, Vars, Answer, answered, vars_after, Does, Local, Makes, Gets, Puts, Forgets, Opens, Calls, Spawns, Waits, Releases, Prints, Counts, Done, does, begins}
-use Rattle.rx_rules.specs.Tree.{Tree, inner}
-use Rattle.rx_rules.specs.Store.{State, MayCell, after_cell}
-use Rattle.rx_rules.specs.Plays.{Tells, begun, journal_at}
-use Rattle.rx_rules.specs.Run.{Given}
-use Rattle.rx_rules.specs.Picked.{Game, Player, Goes, stays, local, stores, tree_in}
 use Rattle.rx_runs.specs.Steps.{steps, Sinks, TermSinks}
 use Rattle.rx_runs.specs.Left.{FewLeft, GoingSinks}
 use Rattle.rx_history.specs.Setups.{given}

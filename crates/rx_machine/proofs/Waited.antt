@@ -1,25 +1,15 @@
 -- The turn that waits for a finish.
-use Rattle.std.specs.Prelude.{◌≡◌, ℕ, Bool, true, false, cond, map, filter, reverse, List, [], ◌∷◌, ◌++◌, Some, slice_set, refl}
+use Rattle.std.proofs.Common.{◌≡◌, ℕ, Bool, true, false, cond, map, filter, reverse, List, [], ◌∷◌, ◌++◌, Some, slice_set, refl, ap, ◌∙◌, sym, subst}
 use Rattle.std.specs.List.{find}
-use Rattle.std.proofs.Common.{ap, ◌∙◌, sym, subst}
 use Rattle.std.proofs.lemmas.List.{reverse-append, reverse-reverse}
-use Rattle.rx_base.specs.declared.ids.PlaceId.{PlaceId}
-use Rattle.rx_base.specs.declared.ids.TaskId.{TaskId}
-use Rattle.rx_base.specs.declared.ids.ScopeId.{ScopeId}
-use Rattle.rx_base.specs.declared.values.Fault.{Fault}
+use Rattle.rx_rules.proofs.Common.{PlaceId, TaskId, ScopeId, Fault, Block, does, granted, Waits, Does, Tree, own_scope, inner, opened_by, AllowedAct, made_act, change_scope, waiting, Given, Game, Player, Turn, tree_in}
 use Rattle.rx_rules.specs.declared.tasks.Task.{Task}
 use Rattle.rx_rules.specs.declared.tasks.Scope.{Scope}
 use Rattle.rx_rules.specs.declared.tasks.Kind.{Kind}
 use Rattle.rx_rules.specs.declared.tasks.Kind.TheVariants.{Finish as OfFinish}
 use Rattle.rx_rules.specs.declared.entries.Act.{Act}
 use Rattle.rx_rules.specs.declared.entries.Act.TheVariants.{Wait}
-use Rattle.rx_rules.specs.Code.{Block}
-use Rattle.rx_rules.specs.Terms.{does, granted, Waits, Does}
-use Rattle.rx_rules.specs.Tree.{Tree, own_scope, inner, opened_by}
-use Rattle.rx_rules.specs.Entries.{AllowedAct, made_act, change_scope, waiting}
 use Rattle.rx_rules.specs.Plays.{Fits}
-use Rattle.rx_rules.specs.Run.{Given}
-use Rattle.rx_rules.specs.Picked.{Game, Player, Turn, tree_in}
 use Rattle.rx_finish.specs.Callers.{HasFinish, MayAskWait}
 use Rattle.rx_chronicle.specs.Requests.{tree_told, Granted}
 use Rattle.rx_syntax.specs.Shape.{Shape}

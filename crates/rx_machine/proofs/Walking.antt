@@ -1,11 +1,8 @@
 -- The walk by the notes of scopes to the nearest opener, and the task that moves.
-use Rattle.std.specs.Prelude.{◌≡◌, ◌≢◌, ◌⊎◌, ℕ, ◌<◌, true, false, cond, List, length, Option, Some, None, is_none, is_some, get_or, refl}
-use Rattle.std.proofs.Common.{ap, ◌∙◌, sym, subst, arith, inr, inl}
+use Rattle.std.proofs.Common.{◌≡◌, ◌≢◌, ◌⊎◌, ℕ, ◌<◌, true, false, cond, List, length, Option, Some, None, is_none, is_some, get_or, refl, ap, ◌∙◌, sym, subst, arith, inr, inl}
 use Rattle.std.proofs.lemmas.Bool.{eqb-true}
 use Rattle.std.proofs.lemmas.Option.{slice_get-get_or}
-use Rattle.rx_base.specs.declared.ids.TaskId.{TaskId}
-use Rattle.rx_base.specs.declared.ids.ScopeId.{ScopeId}
-use Rattle.rx_base.specs.declared.values.Fault.{Fault}
+use Rattle.rx_rules.proofs.Common.{TaskId, ScopeId, Fault, Block, Tree, task_of, is_scope, on_chain, the_root, AllowedAct, made_act, change_first, waiting, resumed, add_task, opened, born, without, Reached, Given, Game, Player, tree_in}
 use Rattle.rx_base.proofs.Elements.{find-passes}
 use Rattle.rx_base.proofs.SameIds.{scope-is}
 use Rattle.rx_rules.specs.declared.tasks.Where.TheVariants.{At}
@@ -14,12 +11,6 @@ use Rattle.rx_rules.specs.declared.tasks.Kind.TheVariants.{Call}
 use Rattle.rx_rules.specs.declared.entries.Act.{Act}
 use Rattle.rx_rules.specs.declared.entries.Act.TheVariants.{Open, At as Calls, Spawn, Arrive, Wait, Release, End, Print, Census}
 use Rattle.rx_rules.specs.declared.entries.Entry.{Entry}
-use Rattle.rx_rules.specs.Code.{Block}
-use Rattle.rx_rules.specs.Tree.{Tree, task_of, is_scope, on_chain, the_root}
-use Rattle.rx_rules.specs.Entries.{AllowedAct, made_act, change_first, waiting, resumed, add_task, opened, born, without}
-use Rattle.rx_rules.specs.Reached.{Reached}
-use Rattle.rx_rules.specs.Run.{Given}
-use Rattle.rx_rules.specs.Picked.{Game, Player, tree_in}
 use Rattle.rx_sound.specs.Sound.{Sound}
 use Rattle.rx_sound.specs.Enabling.{unstruck_in, is_left, nearest_opener, GoesUp, WalkGoesUp, WalkEnds}
 use Rattle.rx_sound.proofs.Changes.{each_found}

@@ -1,18 +1,12 @@
 -- A picked run, turn by turn.
-use Rattle.std.specs.Prelude.{length, ◌≡◌, ℕ, suc, ◌+◌, ◌*◌, ◌≤◌, Bool, true, false, List, [], ◌∷◌, ◌++◌, map, refl}
-use Rattle.std.proofs.Common.{ap, ◌∙◌, sym, subst, arith}
+use Rattle.std.proofs.Common.{length, ◌≡◌, ℕ, suc, ◌+◌, ◌*◌, ◌≤◌, Bool, true, false, List, [], ◌∷◌, ◌++◌, map, refl, ap, ◌∙◌, sym, subst, arith, length-append}
 use Rattle.std.proofs.lemmas.List.{append_assoc, append-nil}
-use Rattle.std.proofs.Common.{length-append}
-use Rattle.rx_base.specs.declared.ids.TaskId.{TaskId}
+use Rattle.rx_rules.proofs.Common.{TaskId, Block, work, Tree, tree_of, Given, IsDue, in_all, NoRoot, Game, Turn, planned as due, arrives, moves, root, none, more, IsPicked, start_game, tree_in, used_after}
 use Rattle.rx_rules.specs.declared.entries.Act.{Act}
 use Rattle.rx_rules.specs.declared.entries.Act.TheVariants.{Arrive, End}
 use Rattle.rx_rules.specs.declared.entries.Entry.{Entry}
 use Rattle.rx_rules.specs.declared.entries.Entry.TheVariants.{Step, Root, Death, Join}
-use Rattle.rx_rules.specs.Code.{Block, work}
-use Rattle.rx_rules.specs.Tree.{Tree}
-use Rattle.rx_rules.specs.Fold.{tree_of}
-use Rattle.rx_rules.specs.Run.{Given, IsDue, in_all, NoRoot}
-use Rattle.rx_rules.specs.Picked.{Game, Turn, due, arrives, moves, ends, root, Turns, none, more, IsPicked, start_game, tree_in, used_after}
+use Rattle.rx_rules.specs.Picked.{ends, Turns}
 use Rattle.rx_rules.proofs.Append.{no_root-push}
 use Rattle.rx_runs.proofs.Planned.{IsPlanned, due_planned}
 use Rattle.rx_runs.specs.Coming.{GamesCome}

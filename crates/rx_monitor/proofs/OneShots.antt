@@ -1,9 +1,8 @@
 -- Each step on a one-shot keeps its rule.
-use Rattle.std.proofs.Common.{◌≡◌, ◌≢◌, ℕ, zero, suc, ◌<◌, eqb, Option, Some, None, List, [], ◌∷◌, set, slice_index, replicate, refl, sym, ◌∙◌, arith, subst, ⊎_elim}
+use Rattle.std.proofs.Common.{◌≡◌, ◌≢◌, ℕ, zero, suc, ◌<◌, eqb, Option, Some, None, List, [], ◌∷◌, set, slice_index, replicate, refl, sym, ◌∙◌, arith, subst, ⊎_elim, slice_set}
 use mathlib.Core.Option.{none, some, some-injective, some-ne-none}
 use prog.Atomic.{either}
 use lib.ListN.{get_elem?}
-use Rattle.std.specs.Prelude.{slice_set}
 use Rattle.rx_base.proofs.Elements.{one-word, set-one, set-one-again}
 use Rattle.atomic_table.specs.Table.{State, Act, keeps, takes, gives, step, stepped, carried_after, Valid, Allows, Enters, opening}
 use Rattle.atomic_table.proofs.Lists.{at_set, at_snoc, set_here, set_again, exchanged}

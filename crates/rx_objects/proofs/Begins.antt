@@ -1,11 +1,9 @@
 -- What begins a legal history of a book is legal.
-use Rattle.std.specs.Prelude.{ℕ, List, [], ◌∷◌, ◌++◌}
-use Rattle.std.proofs.Common.{sym, subst}
+use Rattle.std.proofs.Common.{ℕ, List, [], ◌∷◌, ◌++◌, sym, subst}
 use Rattle.std.proofs.lemmas.List.{map-append}
 use mathlib.Core.List.{IsPrefix}
 use Rattle.rx_rules.specs.declared.events.PlaceEvent.{PlaceEvent}
-use Rattle.rx_rules.specs.Code.{Block}
-use Rattle.rx_rules.specs.Run.{Given}
+use Rattle.rx_rules.proofs.Common.{Block, Given}
 use Rattle.rx_history.specs.Setups.{given}
 use Rattle.rx_book.specs.declared.views.Stamped.{Stamped}
 use Rattle.rx_parts.specs.Ledger.{LedgerItem, LegalLedger}

@@ -1,18 +1,14 @@
 -- The places that are dead in the tree to which a history folds are those whose deaths stand in it.
-use Rattle.std.specs.Prelude.{◌≡◌, ℕ, zero, suc, ◌+◌, ◌*◌, ◌/◌, ◌%◌, ◌^◌, ◌<◌, ◌==◌, ◌||◌, cond, Bool, true, false, length, List, [], ◌∷◌, slice_index_or, slice_set, Option, Some, None, is_some, refl}
-use Rattle.std.proofs.Common.{sym, ap, ◌∙◌, arith}
+use Rattle.std.proofs.Common.{◌≡◌, ℕ, zero, suc, ◌+◌, ◌*◌, ◌/◌, ◌%◌, ◌^◌, ◌<◌, ◌==◌, ◌||◌, cond, Bool, true, false, length, List, [], ◌∷◌, slice_index_or, slice_set, Option, Some, None, is_some, refl, sym, ap, ◌∙◌, arith}
 use Rattle.std.specs.Int.{bit_at}
 use Rattle.std.proofs.Math.Bool.{or-true}
 use Rattle.std.proofs.lemmas.Bool.{eqb-true, eqb-false}
 use Rattle.std.proofs.lemmas.List.{get_or-set_same, get_or-set_other, length-set}
 use Rattle.std.proofs.lemmas.Nat.Bits.{bit_at-zero, bit_at-suc, bit_at_lowest}
-use Rattle.rx_base.specs.Sets.{has_bit}
+use Rattle.rx_rules.proofs.Common.{has_bit, Tree, made, made_act, opening, fold_from, tree_of}
 use Rattle.rx_base.proofs.Bools.{same-or-false}
 use Rattle.rx_rules.specs.declared.entries.Entry.{Entry}
 use Rattle.rx_rules.specs.declared.entries.Entry.TheVariants.{Step, Root, Death, Join}
-use Rattle.rx_rules.specs.Tree.{Tree}
-use Rattle.rx_rules.specs.Entries.{made, made_act}
-use Rattle.rx_rules.specs.Fold.{opening, fold_from, tree_of}
 use Rattle.rx_chronicle.specs.Told.{dies_in}
 use Rattle.rx_objects.specs.Shown.{dead_bits}
 use Rattle.rx_sound.proofs.Histories.{no_dead, dead-act}

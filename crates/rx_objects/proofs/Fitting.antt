@@ -1,17 +1,12 @@
 -- What a pass may ask by what it has seen fits the histories in which its call may be made.
-use Rattle.std.specs.Prelude.{◌≡◌, ℕ, ◌≤◌, cond, Bool, true, false, List, [], ◌∷◌, ◌++◌, map, drop, length, Option, Some, None, slice_get, refl}
-use Rattle.std.proofs.Common.{ap, sym, ◌∙◌, subst, arith, length-append}
+use Rattle.std.proofs.Common.{◌≡◌, ℕ, ◌≤◌, cond, Bool, true, false, List, [], ◌∷◌, ◌++◌, map, drop, length, Option, Some, None, slice_get, refl, ap, sym, ◌∙◌, subst, arith, length-append}
 use Rattle.std.proofs.lemmas.List.{append-nil, map-append}
 use Rattle.std.proofs.Math.Seq.{drop-length}
 use mathlib.Core.List.{IsPrefix}
-use Rattle.rx_base.specs.declared.ids.TaskId.{TaskId}
+use Rattle.rx_rules.proofs.Common.{TaskId, Block, Term, Does, Cells, Given, Folds}
 use Rattle.rx_rules.specs.declared.entries.Entry.{Entry}
 use Rattle.rx_rules.specs.declared.entries.Entry.TheVariants.{Step, Root, Death, Join}
 use Rattle.rx_rules.specs.declared.events.PlaceEvent.{PlaceEvent}
-use Rattle.rx_rules.specs.Code.{Block}
-use Rattle.rx_rules.specs.Terms.{Term, Does}
-use Rattle.rx_rules.specs.Plays.{Cells}
-use Rattle.rx_rules.specs.Run.{Given, Folds}
 use Rattle.rx_sound.specs.Sound.{Each}
 use Rattle.rx_finish.specs.declared.ledger.Caller.{Caller}
 use Rattle.rx_ticket.specs.declared.tickets.AnyTicket.{AnyTicket}

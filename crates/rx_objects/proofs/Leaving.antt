@@ -1,11 +1,10 @@
 -- What a call of the ledger's object leaves.
-use Rattle.std.specs.Prelude.{◌≡◌, ℕ, suc, ◌&&◌, Bool, true, false, MatchBool, List, [], ◌∷◌, ◌++◌, map, drop, length, Option, refl}
-use Rattle.std.proofs.Common.{ap, sym, ◌∙◌, subst}
+use Rattle.std.proofs.Common.{◌≡◌, ℕ, suc, ◌&&◌, Bool, true, false, MatchBool, List, [], ◌∷◌, ◌++◌, map, drop, length, Option, refl, ap, sym, ◌∙◌, subst}
 use Rattle.std.proofs.lemmas.List.{append-nil, map-append}
 use Rattle.std.proofs.lemmas.List.Elements.{All-nil}
 use Rattle.std.proofs.Math.Seq.{drop-append_seam}
 use Rattle.rx_rules.specs.declared.entries.Entry.{Entry}
-use Rattle.rx_rules.specs.Run.{Folds, NoRoot}
+use Rattle.rx_rules.proofs.Common.{Folds, NoRoot}
 use Rattle.rx_history.specs.declared.setup.Setup.{Setup}
 use Rattle.rx_history.specs.Setups.{given}
 use Rattle.rx_check.specs.Checked.{Checked}

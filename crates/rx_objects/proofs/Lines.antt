@@ -1,6 +1,5 @@
 -- The deaths of the items are those of the entries.
-use Rattle.std.specs.Prelude.{nat_le, ◌≡◌, ◌≢◌, ℕ, ◌<◌, ◌==◌, ◌||◌, Bool, true, false, cond, Some, None, List, [], ◌∷◌, refl}
-use Rattle.std.proofs.Common.{arith, inl, inr}
+use Rattle.std.proofs.Common.{nat_le, ◌≡◌, ◌≢◌, ℕ, ◌<◌, ◌==◌, ◌||◌, Bool, true, false, cond, Some, None, List, [], ◌∷◌, refl, arith, inl, inr}
 use Rattle.std.proofs.lemmas.Bool.{ne_eqb}
 use Rattle.std.proofs.lemmas.Bool.Decides.{leb_tells}
 use Rattle.rx_rules.specs.declared.entries.Entry.{Entry}

@@ -1,13 +1,7 @@
 -- What the main activity may ask before its first entry.
-use Rattle.std.specs.Prelude.{◌≡◌, ℕ, ◌≤◌, List, [], ◌∷◌, map, Option, Some, None, slice_get, refl}
-use Rattle.std.proofs.Common.{ap, sym, ◌∙◌, subst, arith}
+use Rattle.std.proofs.Common.{◌≡◌, ℕ, ◌≤◌, List, [], ◌∷◌, map, Option, Some, None, slice_get, refl, ap, sym, ◌∙◌, subst, arith}
 use Rattle.std.proofs.lemmas.Option.{same_Some}
-use Rattle.rx_base.specs.declared.ids.TaskId.{TaskId}
-use Rattle.rx_rules.specs.Code.{Block}
-use Rattle.rx_rules.specs.Terms.{Empty, items, no_vars, does, begins, Does, Local, Makes, Gets, Puts, Forgets, Opens, Calls, Spawns, Waits, Releases, Prints, Counts, Done}
-use Rattle.rx_rules.specs.Fold.{tree_of}
-use Rattle.rx_rules.specs.Run.{Given, Folds}
-use Rattle.rx_rules.specs.Plays.{Cells, cell_of}
+use Rattle.rx_rules.proofs.Common.{TaskId, Block, Empty, items, no_vars, does, begins, Does, Local, Makes, Gets, Puts, Forgets, Opens, Calls, Spawns, Waits, Releases, Prints, Counts, Done, tree_of, Given, Folds, Cells, cell_of}
 use Rattle.std.specs.List.{filter_map}
 use Rattle.rx_history.specs.declared.step.Next.TheVariants.{Cell as CellStep, Book as BookStep}
 use Rattle.rx_history.specs.declared.step.Want.TheVariants.{Open as WantOpen}

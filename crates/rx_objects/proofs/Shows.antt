@@ -1,16 +1,13 @@
 -- The board of the ledger's object.
-use Rattle.std.specs.Prelude.{◌≡◌, ℕ, zero, suc, ◌<◌, ◌≤◌, ◌==◌, Bool, true, false, ◌||◌, not, List, [], ◌∷◌, ◌++◌, map, take, length, Option, Some, MatchBool, refl}
-use Rattle.std.proofs.Common.{sym, subst, ap, ◌∙◌, arith, length-append}
+use Rattle.std.proofs.Common.{◌≡◌, ℕ, zero, suc, ◌<◌, ◌≤◌, ◌==◌, Bool, true, false, ◌||◌, not, List, [], ◌∷◌, ◌++◌, map, take, length, Option, Some, MatchBool, refl, sym, subst, ap, ◌∙◌, arith, length-append}
 use Rattle.std.proofs.Math.Bool.{or-true}
 use Rattle.std.proofs.Math.Seq.{take-length, take-append_seam}
 use Rattle.std.proofs.lemmas.List.{append-nil, length-take-le, take-take}
-use Rattle.rx_base.specs.Sets.{has_bit, all_places, MembersMakeTheSet}
-use Rattle.rx_base.specs.declared.place_set.PlaceSet.{PlaceSet}
+use Rattle.rx_rules.proofs.Common.{has_bit, all_places, MembersMakeTheSet, PlaceSet, tree_of}
 use Rattle.rx_base.proofs.Bools.{same-or-false}
 use Rattle.rx_base.proofs.Elements.{last-is}
 use Rattle.rx_rules.specs.declared.entries.Entry.{Entry}
 use Rattle.rx_rules.specs.declared.entries.Entry.TheVariants.{Step, Root, Death, Join}
-use Rattle.rx_rules.specs.Fold.{tree_of}
 use Rattle.rx_sound.proofs.Changes.{each_more}
 use Rattle.rx_history.specs.declared.setup.Setup.{Setup}
 use Rattle.rx_finish.specs.declared.totals.Totals.{Totals}

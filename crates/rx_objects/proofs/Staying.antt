@@ -1,20 +1,14 @@
 -- What the keeper appends keeps a history legal.
-use Rattle.std.specs.Prelude.{◌≡◌, ℕ, suc, Bool, true, false, List, [], ◌∷◌, ◌++◌, map, length, Some, refl}
-use Rattle.std.proofs.Common.{ap, sym, ◌∙◌, subst, append_assoc, inl, inr}
+use Rattle.std.proofs.Common.{◌≡◌, ℕ, suc, Bool, true, false, List, [], ◌∷◌, ◌++◌, map, length, Some, refl, ap, sym, ◌∙◌, subst, append_assoc, inl, inr}
 use Rattle.std.proofs.lemmas.List.{append-nil, map-append}
 use Rattle.std.proofs.lemmas.Option.{same_Some}
-use Rattle.rx_base.specs.declared.ids.PlaceId.{PlaceId}
+use Rattle.rx_rules.proofs.Common.{PlaceId, Block, place_number, Term, Does, Cells, Given, Folds, Tree}
 use Rattle.rx_rules.specs.declared.tasks.Where.TheVariants.{At as Stays}
 use Rattle.rx_rules.specs.declared.entries.Act.{Act}
 use Rattle.rx_rules.specs.declared.entries.Act.TheVariants.{Open, At as ActCall, Spawn, Arrive, Wait, Release, End, Print, Census}
 use Rattle.rx_rules.specs.declared.entries.Entry.{Entry}
 use Rattle.rx_rules.specs.declared.entries.Entry.TheVariants.{Step, Root}
-use Rattle.rx_rules.specs.Code.{Block}
-use Rattle.rx_rules.specs.Entries.{place_number}
-use Rattle.rx_rules.specs.Terms.{Term, Does}
-use Rattle.rx_rules.specs.Plays.{Cells, Fits}
-use Rattle.rx_rules.specs.Run.{Given, Folds}
-use Rattle.rx_rules.specs.Tree.{Tree}
+use Rattle.rx_rules.specs.Plays.{Fits}
 use Rattle.rx_history.specs.Setups.{given}
 use Rattle.rx_finish.specs.declared.ledger.Caller.{Caller}
 use Rattle.rx_finish.specs.Calls.{landing}

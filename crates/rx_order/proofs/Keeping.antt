@@ -1,9 +1,7 @@
 -- Whether a path is kept, by the statements along it.
-use Rattle.std.proofs.Common.{◌≡◌, ℕ, zero, suc, ◌+◌, ◌<◌, Bool, true, false, List, [], ◌∷◌, length, drop, refl, ap, sym, arith}
-use Rattle.std.specs.Prelude.{Some, None, slice_get}
+use Rattle.std.proofs.Common.{◌≡◌, ℕ, zero, suc, ◌+◌, ◌<◌, Bool, true, false, List, [], ◌∷◌, length, drop, refl, ap, sym, arith, Some, None, slice_get}
 use Rattle.rx_base.proofs.Elements.{drop-next}
-use Rattle.rx_rules.specs.Code.{Stmt, Block, At, If, Repeat, Try}
-use Rattle.rx_rules.specs.Order.{is_kept, is_kept_in}
+use Rattle.rx_rules.proofs.Common.{Stmt, Block, At, If, Repeat, Try, is_kept, is_kept_in}
 use Rattle.rx_syntax.specs.Shape.{Shape, BlockStands}
 use Rattle.rx_order.specs.declared.parts.Part.{Part}
 use Rattle.rx_order.specs.Inside.Parts.{is_kept_along, part_in, IsPart, IsOpen}

@@ -1,9 +1,7 @@
 -- Positions in lists and in blocks.
-use Rattle.std.proofs.Common.{◌≡◌, ℕ, zero, suc, ◌<◌, ◌≤◌, false, List, [], ◌∷◌, length, refl, ap, sym, ◌∙◌, subst, arith}
-use Rattle.std.specs.Prelude.{Option, Some, None, IfSome, slice_get}
+use Rattle.std.proofs.Common.{◌≡◌, ℕ, zero, suc, ◌<◌, ◌≤◌, false, List, [], ◌∷◌, length, refl, ap, sym, ◌∙◌, subst, arith, Option, Some, None, IfSome, slice_get}
 use Rattle.std.proofs.lemmas.Option.{slice_get_within, same_Some}
-use Rattle.rx_rules.specs.Code.{Stmt, Block, Nothing, Then}
-use Rattle.rx_rules.specs.Order.{is_kept, is_kept_in, before_inside, is_before_in}
+use Rattle.rx_rules.proofs.Common.{Stmt, Block, Nothing, Then, is_kept, is_kept_in, before_inside, is_before_in}
 use Rattle.rx_syntax.specs.Shape.{Shape, StmtIs, ListStands, BlockStands}
 use Rattle.rx_syntax.specs.declared.nodes.StmtId.{StmtId}
 use Rattle.rx_syntax.specs.declared.nodes.BlockId.{BlockId}

@@ -1,8 +1,7 @@
 -- The part of a statement into which a path goes.
-use Rattle.std.proofs.Common.{◌≡◌, ℕ, zero, suc, ◌+◌, ◌<◌, ◌≤◌, List, [], ◌∷◌, length, drop, refl, ap, sym, subst, arith, length-drop}
-use Rattle.std.specs.Prelude.{Bool, Option, Some, None, slice_get}
+use Rattle.std.proofs.Common.{◌≡◌, ℕ, zero, suc, ◌+◌, ◌<◌, ◌≤◌, List, [], ◌∷◌, length, drop, refl, ap, sym, subst, arith, length-drop, Bool, Option, Some, None, slice_get}
 use Rattle.rx_base.proofs.Elements.{drop-next}
-use Rattle.rx_rules.specs.Code.{Stmt, Block, If, Repeat, Try}
+use Rattle.rx_rules.proofs.Common.{Stmt, Block, If, Repeat, Try}
 use Rattle.rx_syntax.specs.Shape.{Shape, StmtIs, BlockStands}
 use Rattle.rx_syntax.specs.declared.nodes.ExprId.{ExprId}
 use Rattle.rx_syntax.specs.declared.nodes.BlockId.{BlockId}

@@ -1,20 +1,14 @@
 -- Along a history of the ledger: terms, numbers, entries and births of its tasks.
-use Rattle.std.specs.Prelude.{◌≡◌, ◌≢◌, ◌⊎◌, ℕ, suc, ◌+◌, ◌<◌, ◌≤◌, List, [], ◌∷◌, ◌++◌, length, slice_get, Option, Some, None, refl}
+use Rattle.std.proofs.Common.{◌≡◌, ◌≢◌, ◌⊎◌, ℕ, suc, ◌+◌, ◌<◌, ◌≤◌, List, [], ◌∷◌, ◌++◌, length, slice_get, Option, Some, None, refl, arith, ap, sym, ◌∙◌, subst, append_assoc, inl, inr}
 use Rattle.std.specs.List.{cons_option}
-use Rattle.std.proofs.Common.{arith, ap, sym, ◌∙◌, subst, append_assoc, inl, inr}
 use Rattle.std.proofs.lemmas.Bool.{ne_eqb}
 use Rattle.std.proofs.lemmas.List.{append-nil}
 use Rattle.std.proofs.lemmas.List.Sums.{sum_by-cons}
-use Rattle.rx_base.specs.declared.ids.TaskId.{TaskId}
-use Rattle.rx_base.specs.declared.ids.PlaceId.{PlaceId}
+use Rattle.rx_rules.proofs.Common.{TaskId, PlaceId, Tree, Allowed, AllowedAct, made, AllAllowed, births, births_of, Starts, Moves, Birth, StartsSo, started_by, move_of, moves_from, birth_in, birth_from}
 use Rattle.rx_rules.specs.declared.entries.Act.{Act}
 use Rattle.rx_rules.specs.declared.entries.Act.TheVariants.{Open, At as Calls, Spawn, Arrive, Wait, Release, End, Print, Census}
 use Rattle.rx_rules.specs.declared.entries.Entry.{Entry}
 use Rattle.rx_rules.specs.declared.entries.Entry.TheVariants.{Step, Root, Death, Join}
-use Rattle.rx_rules.specs.Tree.{Tree}
-use Rattle.rx_rules.specs.Entries.{Allowed, AllowedAct, made}
-use Rattle.rx_rules.specs.Fold.{AllAllowed, births, births_of}
-use Rattle.rx_rules.specs.Plays.{Starts, Moves, Birth, StartsSo, started_by, move_of, moves_from, birth_in, birth_from}
 use Rattle.rx_runs.specs.Segments.{Stand}
 use Rattle.rx_rules.proofs.Numbers.{next-made}
 use Rattle.rx_runs.proofs.Wider.{SoFor}

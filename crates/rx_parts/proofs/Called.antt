@@ -1,10 +1,8 @@
 -- Calls of a book as the laws of parts have them.
-use Rattle.std.specs.Prelude.{◌≡◌, ℕ, ◌+◌, List, [], ◌∷◌, ◌++◌, length}
-use Rattle.std.proofs.Common.{arith, ap, ◌∙◌, subst, append_assoc, length-append}
+use Rattle.std.proofs.Common.{◌≡◌, ℕ, ◌+◌, List, [], ◌∷◌, ◌++◌, length, arith, ap, ◌∙◌, subst, append_assoc, length-append}
 use Rattle.std.proofs.lemmas.List.{map-append}
 use Rattle.rx_base.proofs.Elements.{empty-from}
-use Rattle.rx_rules.specs.Code.{Block}
-use Rattle.rx_rules.specs.Run.{Given}
+use Rattle.rx_rules.proofs.Common.{Block, Given}
 use Rattle.rx_book.specs.declared.views.Stamped.{Stamped}
 use Rattle.rx_book.specs.History.{stamped, stamp_all, entries_by}
 use Rattle.rx_book.proofs.History.{entries_by-append, entries_by-same}

@@ -1,18 +1,13 @@
 -- What an item makes of one task.
-use Rattle.std.specs.Prelude.{◌≡◌, ◌≢◌, ℕ, zero, suc, ◌+◌, ◌<◌, ◌≤◌, Bool, true, false, ◌==◌, List, [], ◌∷◌, ◌++◌, length, slice_get, slice_set, Some, None, refl}
-use Rattle.std.proofs.Common.{arith, ap, sym, ◌∙◌, subst, length-set, length-append}
+use Rattle.std.proofs.Common.{◌≡◌, ◌≢◌, ℕ, zero, suc, ◌+◌, ◌<◌, ◌≤◌, Bool, true, false, ◌==◌, List, [], ◌∷◌, ◌++◌, length, slice_get, slice_set, Some, None, refl, arith, ap, sym, ◌∙◌, subst, length-set, length-append}
 use Rattle.std.proofs.lemmas.Bool.{eqb-true, eq-eqb, ne_eqb, true≢false}
 use Rattle.std.proofs.lemmas.List.{append-nil}
-use Rattle.rx_base.specs.declared.ids.PlaceId.{PlaceId}
-use Rattle.rx_base.specs.declared.ids.TaskId.{TaskId}
-use Rattle.rx_base.specs.declared.values.Fault.{Fault}
+use Rattle.rx_rules.proofs.Common.{PlaceId, TaskId, Fault, births_of, Done, does, move_of, birth_in, started_by}
 use Rattle.rx_rules.specs.declared.entries.Act.{Act}
 use Rattle.rx_rules.specs.declared.entries.Act.TheVariants.{Open, At as Calls, Spawn, Arrive, Wait, Release, End, Print, Census}
 use Rattle.rx_rules.specs.declared.entries.Entry.{Entry}
 use Rattle.rx_rules.specs.declared.entries.Entry.TheVariants.{Step, Root, Death, Join}
-use Rattle.rx_rules.specs.Fold.{births_of}
-use Rattle.rx_rules.specs.Terms.{Done, does}
-use Rattle.rx_rules.specs.Plays.{Fits, move_of, birth_in, started_by}
+use Rattle.rx_rules.specs.Plays.{Fits}
 use Rattle.rx_runs.specs.Segments.{Stand}
 use Rattle.rx_parts.specs.Ledger.{LedgerItem, Actor, Away, Present, Walks, actor_born, actors_born, actor_arrived, actor_granted, actor_ended, IsHostEntry, ItemMakes, hosts, arrives, asks, ends}
 use Rattle.rx_parts.proofs.Lists.{one_item, not_none, inside, outside, got_set, got_other, got_left, got_right}

@@ -1,16 +1,13 @@
 -- The parts, closed, are a whole run.
-use Rattle.std.specs.Prelude.{◌≡◌, ℕ, zero, suc, ◌≤◌, List, [], ◌∷◌, ◌++◌, length, Option, Some, None, refl, Bool, true, false, cond, ◌==◌, take, ◌+◌}
+use Rattle.std.proofs.Common.{◌≡◌, ℕ, zero, suc, ◌≤◌, List, [], ◌∷◌, ◌++◌, length, Option, Some, None, refl, Bool, true, false, cond, ◌==◌, take, ◌+◌, arith, ap, sym, ◌∙◌, subst}
 use Rattle.std.specs.List.{filter_map}
-use Rattle.std.proofs.Common.{arith, ap, sym, ◌∙◌, subst}
 use Rattle.std.proofs.lemmas.List.{append-nil}
 use Rattle.std.proofs.lemmas.List.Elements.{filter_map-append}
-use Rattle.rx_base.specs.declared.ids.PlaceId.{PlaceId}
+use Rattle.rx_rules.proofs.Common.{PlaceId, Starts, EachPlays, Begins, birth_of, travels, cell_of, journal_at, moves_from, Given, AllJournals, AtHome, NotFalling, ClosesAt, close_in, death_number}
 use Rattle.rx_rules.specs.declared.entries.Entry.{Entry}
 use Rattle.rx_rules.specs.declared.entries.Entry.TheVariants.{Step, Root, Death, Join}
 use Rattle.rx_rules.specs.declared.events.PlaceEvent.{PlaceEvent}
 use Rattle.rx_rules.specs.declared.events.PlaceEvent.TheVariants.{Close}
-use Rattle.rx_rules.specs.Plays.{Starts, EachPlays, Begins, birth_of, travels, cell_of, journal_at, moves_from}
-use Rattle.rx_rules.specs.Run.{Given, AllJournals, AtHome, NotFalling, ClosesAt, close_in, death_number}
 use Rattle.rx_parts.specs.Ledger.{entries_of}
 use Rattle.rx_parts.specs.Places.{MadeEvent, journal_of}
 use Rattle.rx_parts.specs.Parts.{journals_of, EachStamped}

@@ -1,16 +1,12 @@
 -- A history of the ledger leads its tasks to one end.
-use Rattle.std.specs.Prelude.{◌≡◌, ℕ, suc, ◌+◌, List, [], ◌∷◌, ◌++◌, length, slice_get, slice_set, Some, refl}
-use Rattle.std.proofs.Common.{arith, ap, sym, ◌∙◌, subst}
-use Rattle.rx_base.specs.declared.ids.PlaceId.{PlaceId}
-use Rattle.rx_base.specs.declared.ids.TaskId.{TaskId}
-use Rattle.rx_base.specs.declared.values.Fault.{Fault}
+use Rattle.std.proofs.Common.{◌≡◌, ℕ, suc, ◌+◌, List, [], ◌∷◌, ◌++◌, length, slice_get, slice_set, Some, refl, arith, ap, sym, ◌∙◌, subst}
+use Rattle.rx_rules.proofs.Common.{PlaceId, TaskId, Fault, Term, Vars, Answer, answered, vars_after, Does, Local, Done, does, Cells, Tells, begun}
 use Rattle.rx_rules.specs.declared.entries.Act.{Act}
 use Rattle.rx_rules.specs.declared.entries.Act.TheVariants.{Arrive, End}
 use Rattle.rx_rules.specs.declared.entries.Entry.{Entry}
 use Rattle.rx_rules.specs.declared.entries.Entry.TheVariants.{Step}
 use Rattle.rx_rules.specs.declared.events.Cell.{Cell}
-use Rattle.rx_rules.specs.Terms.{Term, Vars, Answer, answered, vars_after, Does, Local, Done, does}
-use Rattle.rx_rules.specs.Plays.{Cells, Tells, Fits, begun}
+use Rattle.rx_rules.specs.Plays.{Fits}
 use Rattle.rx_runs.specs.Segments.{Stand}
 use Rattle.rx_runs.proofs.Walks.{IsLast, fits_last}
 use Rattle.rx_runs.proofs.Keeping.{no_arrival}

@@ -1,6 +1,5 @@
 -- What a pass may ask by what it has seen, it may ask where its call is made.
-use Rattle.std.specs.Prelude.{◌≡◌, ◌≢◌, ℕ, Bool, true, false, List, [], ◌∷◌, ◌++◌, length, slice_get, Some, if◌then◌else◌, refl}
-use Rattle.std.proofs.Common.{ap, sym, ◌∙◌, subst}
+use Rattle.std.proofs.Common.{◌≡◌, ◌≢◌, ℕ, Bool, true, false, List, [], ◌∷◌, ◌++◌, length, slice_get, Some, if◌then◌else◌, refl, ap, sym, ◌∙◌, subst}
 use Rattle.std.proofs.lemmas.List.{append-nil, map-append}
 use Rattle.rx_book.specs.declared.views.Stamped.{Stamped}
 use Rattle.rx_book.specs.Numbers.{is_same}
@@ -11,7 +10,7 @@ use Rattle.rx_parts.specs.Ledger.{LedgerItem, LegalLedger}
 use Rattle.rx_parts.specs.Growing.{NoneBy, MayRequest}
 use Rattle.rx_parts.specs.Calling.{EachSeated}
 use Rattle.rx_parts.specs.Places.{event_of, journal_of}
-use Rattle.rx_rules.specs.Plays.{cell_of}
+use Rattle.rx_rules.proofs.Common.{cell_of}
 use Rattle.std.specs.List.{filter_map}
 use Rattle.std.proofs.lemmas.Bool.{ne_eqb}
 use Rattle.std.proofs.lemmas.List.Elements.{filter_map-append}

@@ -1,9 +1,8 @@
 -- How legal histories grow.
-use Rattle.std.specs.Prelude.{◌≡◌, ◌≢◌, false, ℕ, suc, ◌+◌, ◌<◌, ◌≤◌, List, [], ◌∷◌, ◌++◌, length, slice_get, Some, refl}
-use Rattle.std.proofs.Common.{arith, ap, sym, ◌∙◌, subst, append_assoc, inl, inr}
+use Rattle.std.proofs.Common.{◌≡◌, ◌≢◌, false, ℕ, suc, ◌+◌, ◌<◌, ◌≤◌, List, [], ◌∷◌, ◌++◌, length, slice_get, Some, refl, arith, ap, sym, ◌∙◌, subst, append_assoc, inl, inr}
 use Rattle.std.proofs.lemmas.Bool.{ne_eqb}
 use Rattle.std.proofs.lemmas.List.{append-nil, length-map}
-use Rattle.rx_base.specs.declared.ids.TaskId.{TaskId}
+use Rattle.rx_rules.proofs.Common.{TaskId, Block, Does, opening, AllAllowed, Cells, Tells, move_of, Given, Folds, PlanKept, plan_of}
 use Rattle.rx_base.proofs.Elements.{get-within}
 use Rattle.rx_base.proofs.Prefixes.{prefix-trans}
 use Rattle.rx_rules.specs.declared.entries.Act.{Act}
@@ -11,11 +10,7 @@ use Rattle.rx_rules.specs.declared.entries.Act.TheVariants.{End}
 use Rattle.rx_rules.specs.declared.entries.Entry.{Entry}
 use Rattle.rx_rules.specs.declared.entries.Entry.TheVariants.{Step, Root, Death, Join}
 use Rattle.rx_rules.specs.declared.events.PlaceEvent.{PlaceEvent}
-use Rattle.rx_rules.specs.Code.{Block}
-use Rattle.rx_rules.specs.Terms.{Does}
-use Rattle.rx_rules.specs.Fold.{opening, AllAllowed}
-use Rattle.rx_rules.specs.Plays.{Cells, Fits, Tells, move_of}
-use Rattle.rx_rules.specs.Run.{Given, Folds, PlanKept, plan_of}
+use Rattle.rx_rules.specs.Plays.{Fits}
 use Rattle.rx_runs.specs.Segments.{InTime, plan_left}
 use Rattle.rx_runs.proofs.Append.{allowed-push}
 use Rattle.rx_runs.proofs.Pushes.{plan-push}

@@ -1,11 +1,9 @@
 -- What a task's entries tell and what its place tells are of one run of its term.
-use Rattle.std.specs.Prelude.{◌≡◌, ℕ, suc, List, [], ◌∷◌, ◌++◌, refl}
-use Rattle.std.proofs.Common.{ap, sym, ◌∙◌, subst}
-use Rattle.rx_base.specs.declared.ids.PlaceId.{PlaceId}
+use Rattle.std.proofs.Common.{◌≡◌, ℕ, suc, List, [], ◌∷◌, ◌++◌, refl, ap, sym, ◌∙◌, subst}
+use Rattle.rx_rules.proofs.Common.{PlaceId, Term, Vars, Answer, answered, vars_after, Local, Done, does, granted, Starts, Cells, Moves, Plays, asks, ends, stops, Tells, brought, begun, vars_told}
 use Rattle.rx_rules.specs.declared.entries.Act.{Act}
 use Rattle.rx_rules.specs.declared.events.Cell.{Cell}
-use Rattle.rx_rules.specs.Terms.{Term, Vars, Answer, answered, vars_after, Local, Done, does, granted}
-use Rattle.rx_rules.specs.Plays.{Starts, Cells, Moves, Plays, local, stores, asks, ends, stops, Tells, brought, begun, vars_told}
+use Rattle.rx_rules.specs.Plays.{local, stores}
 use Rattle.rx_parts.specs.Merges.{AccountsMerge}
 use Rattle.rx_runs.proofs.NextSteps.{told_once, not_told_and_fits, not_local_told, not_done_told, not_local_fits, not_done_fits}
 

@@ -1,14 +1,12 @@
 -- The notes that the ledger keeps have the events that entries name.
-use Rattle.std.specs.Prelude.{◌≡◌, ◌⊎◌, ℕ, ◌+◌, List, [], ◌∷◌, ◌++◌, length, Option, Some, None, slice_get, refl}
+use Rattle.std.proofs.Common.{◌≡◌, ◌⊎◌, ℕ, ◌+◌, List, [], ◌∷◌, ◌++◌, length, Option, Some, None, slice_get, refl, arith, ap, sym, ◌∙◌, subst, inl, inr}
 use Rattle.std.specs.List.{filter_map}
-use Rattle.std.proofs.Common.{arith, ap, sym, ◌∙◌, subst, inl, inr}
 use Rattle.std.proofs.lemmas.List.{append-nil, map-append}
 use Rattle.std.proofs.lemmas.List.Elements.{filter_map-append}
-use Rattle.rx_base.specs.declared.ids.TaskId.{TaskId}
+use Rattle.rx_rules.proofs.Common.{TaskId, Birth, cell_of, journal_at}
 use Rattle.rx_rules.specs.declared.entries.Act.{Act}
 use Rattle.rx_rules.specs.declared.entries.Act.TheVariants.{End}
 use Rattle.rx_rules.specs.declared.entries.Entry.TheVariants.{Step}
-use Rattle.rx_rules.specs.Plays.{Birth, cell_of, journal_at}
 use Rattle.rx_runs.proofs.Pairs.{journal_got}
 use Rattle.rx_parts.specs.Ledger.{LedgerItem, Actor, actor_granted, actor_ended}
 use mathlib.Core.List.{IsPrefix}

@@ -1,11 +1,9 @@
 -- A legal history begins with legal ones.
-use Rattle.std.specs.Prelude.{◌≡◌, List, [], ◌∷◌, ◌++◌, refl}
-use Rattle.std.proofs.Common.{subst}
+use Rattle.std.proofs.Common.{◌≡◌, List, [], ◌∷◌, ◌++◌, refl, subst}
 use Rattle.std.proofs.lemmas.List.{map-append}
 use Rattle.rx_rules.specs.declared.entries.Entry.{Entry}
 use Rattle.rx_rules.specs.declared.entries.Entry.TheVariants.{Step, Root, Death, Join}
-use Rattle.rx_rules.specs.Fold.{AllAllowed, opening}
-use Rattle.rx_rules.specs.Run.{PlanKept, plan_of}
+use Rattle.rx_rules.proofs.Common.{AllAllowed, opening, PlanKept, plan_of}
 use Rattle.rx_runs.proofs.Append.{allowed-first, plan-first}
 use Rattle.rx_parts.specs.Ledger.{LedgerItem, main_actor, RootIsLast, entries_of}
 use Rattle.rx_parts.specs.Growing.{PrefixLegal}

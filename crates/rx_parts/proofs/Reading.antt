@@ -1,19 +1,13 @@
 -- What legal histories say, entry by entry and event by event.
-use Rattle.std.specs.Prelude.{◌≡◌, ℕ, zero, suc, ◌+◌, ◌<◌, ◌≤◌, Bool, true, false, cond, ◌==◌, List, [], ◌∷◌, ◌++◌, length, slice_get, Option, Some, None, refl}
-use Rattle.std.proofs.Common.{arith, ap, sym, ◌∙◌, subst, append_assoc, inl, inr}
+use Rattle.std.proofs.Common.{◌≡◌, ℕ, zero, suc, ◌+◌, ◌<◌, ◌≤◌, Bool, true, false, cond, ◌==◌, List, [], ◌∷◌, ◌++◌, length, slice_get, Option, Some, None, refl, arith, ap, sym, ◌∙◌, subst, append_assoc, inl, inr}
 use Rattle.std.proofs.lemmas.Bool.{eq-eqb, ne_eqb}
 use Rattle.std.proofs.lemmas.List.{append-nil, length-map, map-append}
-use Rattle.rx_base.specs.declared.ids.PlaceId.{PlaceId}
-use Rattle.rx_base.specs.declared.ids.TaskId.{TaskId}
+use Rattle.rx_rules.proofs.Common.{PlaceId, TaskId, Block, does, Starts, Cells, Moves, Birth, Begins, birth_of, travels, move_of, moves_from, Given, EndsWithRoot, UpTo}
 use Rattle.rx_rules.specs.declared.entries.Act.{Act}
 use Rattle.rx_rules.specs.declared.entries.Act.TheVariants.{Arrive, End}
 use Rattle.rx_rules.specs.declared.entries.Entry.{Entry}
 use Rattle.rx_rules.specs.declared.entries.Entry.TheVariants.{Step, Root, Death, Join}
-use Rattle.rx_rules.specs.Code.{Block}
-use Rattle.rx_rules.specs.Terms.{does}
-use Rattle.rx_rules.specs.Plays.{Starts, Cells, Moves, Birth, Begins, Fits, birth_of, travels, move_of, moves_from}
-use Rattle.rx_rules.specs.Run.{Given, EndsWithRoot}
-use Rattle.rx_rules.specs.Inversions.{UpTo}
+use Rattle.rx_rules.specs.Plays.{Fits}
 use Rattle.rx_runs.specs.Segments as segments
 use Rattle.rx_runs.specs.Segments.{Stand, StandGoes}
 use Rattle.rx_runs.proofs.Keeping.{no_arrival}

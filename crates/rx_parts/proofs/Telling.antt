@@ -1,23 +1,14 @@
 -- What a call tells its caller.
-use Rattle.std.specs.Prelude.{◌≡◌, ℕ, suc, ◌+◌, ◌<◌, ◌≤◌, List, [], ◌∷◌, ◌++◌, length, slice_get, slice_set, Some, refl}
+use Rattle.std.proofs.Common.{◌≡◌, ℕ, suc, ◌+◌, ◌<◌, ◌≤◌, List, [], ◌∷◌, ◌++◌, length, slice_get, slice_set, Some, refl, arith, ap, sym, ◌∙◌, subst, append_assoc, length-append, length-set}
 use Rattle.std.specs.List.{filter_map}
-use Rattle.std.proofs.Common.{arith, ap, sym, ◌∙◌, subst, append_assoc, length-append, length-set}
 use Rattle.std.proofs.lemmas.List.{map-append}
-use Rattle.rx_base.specs.declared.ids.PlaceId.{PlaceId}
-use Rattle.rx_base.specs.declared.ids.TaskId.{TaskId}
+use Rattle.rx_rules.proofs.Common.{PlaceId, TaskId, Block, Does, Tree, Allowed, made, AllAllowed, opening, fold_from, Cells, Tells, cell_of, UpTo, Given}
 use Rattle.rx_base.proofs.Elements.{get-last}
 use Rattle.rx_rules.specs.declared.entries.Act.{Act}
 use Rattle.rx_rules.specs.declared.entries.Act.TheVariants.{End}
 use Rattle.rx_rules.specs.declared.entries.Entry.{Entry}
 use Rattle.rx_rules.specs.declared.entries.Entry.TheVariants.{Step}
-use Rattle.rx_rules.specs.Code.{Block}
-use Rattle.rx_rules.specs.Terms.{Does}
-use Rattle.rx_rules.specs.Tree.{Tree}
-use Rattle.rx_rules.specs.Entries.{Allowed, made}
-use Rattle.rx_rules.specs.Fold.{AllAllowed, opening, fold_from}
-use Rattle.rx_rules.specs.Plays.{Cells, Fits, Tells, cell_of}
-use Rattle.rx_rules.specs.Inversions.{UpTo}
-use Rattle.rx_rules.specs.Run.{Given}
+use Rattle.rx_rules.specs.Plays.{Fits}
 use Rattle.rx_runs.specs.Segments.{Stand}
 use Rattle.rx_parts.specs.Ledger.{LedgerItem, Actor, Walks, stays, local, stores, main_actor, actor_granted, actor_ended, actor_arrived, actors_born, ItemMakes, arrives, asks, ends, AllMake, entries_of}
 use Rattle.rx_parts.specs.Places.{MadeEvent, event_of, journal_of}

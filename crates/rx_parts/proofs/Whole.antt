@@ -1,21 +1,14 @@
 -- The ledger's history and those of the say one run of each task's term.
-use Rattle.std.specs.Prelude.{◌≡◌, ◌≢◌, ◌⊎◌, ℕ, zero, suc, ◌+◌, ◌<◌, ◌≤◌, Bool, true, false, cond, ◌==◌, List, [], ◌∷◌, ◌++◌, map, length, slice_get, Some, None, refl}
+use Rattle.std.proofs.Common.{◌≡◌, ◌≢◌, ◌⊎◌, ℕ, zero, suc, ◌+◌, ◌<◌, ◌≤◌, Bool, true, false, cond, ◌==◌, List, [], ◌∷◌, ◌++◌, map, length, slice_get, Some, None, refl, arith, ap, sym, ◌∙◌, subst, append_assoc, inl, inr}
 use Rattle.std.specs.List.{filter_map, cons_option}
-use Rattle.std.proofs.Common.{arith, ap, sym, ◌∙◌, subst, append_assoc, inl, inr}
 use Rattle.std.proofs.lemmas.Bool.{eqb-true, eq-eqb, ne_eqb, true≢false}
 use Rattle.std.proofs.lemmas.List.{append-nil, length-map}
 use Rattle.std.proofs.lemmas.List.Elements.{filter_map-append}
-use Rattle.rx_base.specs.declared.ids.PlaceId.{PlaceId}
+use Rattle.rx_rules.proofs.Common.{PlaceId, Block, Term, Vars, opening, births, Starts, Cells, Moves, Birth, Plays, Begins, EachPlays, Played, birth_of, travels, cell_of, journal_at, moves_from, Given, NotFalling, AtHome, UpTo}
 use Rattle.rx_base.proofs.Prefixes.{prefix-trans}
 use Rattle.rx_rules.specs.declared.entries.Entry.{Entry}
 use Rattle.rx_rules.specs.declared.events.PlaceEvent.{PlaceEvent}
 use Rattle.rx_rules.specs.declared.events.PlaceEvent.TheVariants.{Done as Did, Close}
-use Rattle.rx_rules.specs.Code.{Block}
-use Rattle.rx_rules.specs.Terms.{Term, Vars}
-use Rattle.rx_rules.specs.Fold.{opening, births}
-use Rattle.rx_rules.specs.Plays.{Starts, Cells, Moves, Birth, Plays, Begins, EachPlays, Played, birth_of, travels, cell_of, journal_at, moves_from}
-use Rattle.rx_rules.specs.Run.{Given, NotFalling, AtHome}
-use Rattle.rx_rules.specs.Inversions.{UpTo}
 use Rattle.rx_runs.specs.Segments as segments
 use Rattle.rx_runs.specs.Segments.{Stand, StandGoes}
 use Rattle.rx_runs.proofs.Segments.{joined, stopped}

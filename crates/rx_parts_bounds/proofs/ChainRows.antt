@@ -1,12 +1,8 @@
 -- Worked runs in which each task starts the next are parts: an adoption, a place that joins, and a task that is lost at such a place.
-use Rattle.std.specs.Prelude.{ℕ, zero, suc, [], ◌∷◌, ◌++◌, slice_get, refl}
+use Rattle.std.proofs.Common.{ℕ, zero, suc, [], ◌∷◌, ◌++◌, slice_get, refl, lit<, lit≤, subst}
 use Rattle.std.specs.List.{filter_map}
-use Rattle.std.proofs.Common.{lit<, lit≤, subst}
 use mathlib.Core.List.{IsPrefix}
-use Rattle.rx_base.specs.declared.values.Value.TheVariants.{Ref}
-use Rattle.rx_rules.specs.Terms.{Gives}
-use Rattle.rx_rules.specs.Plays.{cell_of, journal_at}
-use Rattle.rx_rules.specs.Examples.{t, p, adoption_script, adoption_setup, joining_script, joining_setup}
+use Rattle.rx_rules.proofs.Common.{Ref, Gives, cell_of, journal_at, t, p, adoption_script, adoption_setup, joining_script, joining_setup}
 use Rattle.rx_rules.proofs.Worked.{adoption_runs, joining_place_runs}
 use Rattle.rx_parts.specs.Ledger.{Actor, stays, local, hosts, arrives, asks, ends, LegalLedger}
 use Rattle.rx_parts.specs.Places.{LegalPlace}

@@ -1,8 +1,7 @@
 -- Tasks are started inside tasks no deeper than statements stand in blocks, and a script that meets the rules has at most 32.
-use Rattle.std.specs.Prelude.{◌≡◌, ◌⊎◌, ℕ, suc, ◌+◌, ◌≤◌, nat_lt, Bool, true, false, ◌||◌, List, [], refl}
-use Rattle.std.proofs.Common.{arith, inl, inr, max}
+use Rattle.std.proofs.Common.{◌≡◌, ◌⊎◌, ℕ, suc, ◌+◌, ◌≤◌, nat_lt, Bool, true, false, ◌||◌, List, [], refl, arith, inl, inr, max}
 use Rattle.std.proofs.lemmas.Bool.Decides.{nat_tests}
-use Rattle.rx_rules.specs.Code.{Stmt, Async, AtAsync, At, Finish, If, Repeat, Try, Block, Nothing, Then}
+use Rattle.rx_rules.proofs.Common.{Stmt, Async, AtAsync, At, Finish, If, Repeat, Try, Block, Nothing, Then}
 use Rattle.rx_check.specs.Rules.{Sight, assigned, learned, inside, sights, nodes}
 use Rattle.rx_check.specs.Checked.{Meets}
 use Rattle.rx_check.proofs.Lawful.{AllPass, passes, meets-pass}

@@ -1,11 +1,8 @@
 -- A legal history of the ledger is bounded: its terms make its entries, whatever the store answered.
-use Rattle.std.specs.Prelude.{◌≡◌, ℕ, suc, ◌+◌, ◌*◌, ◌≤◌, List, [], ◌∷◌, length, Some, slice_get, refl}
-use Rattle.std.proofs.Common.{arith, ap, sym, ◌∙◌, subst}
+use Rattle.std.proofs.Common.{◌≡◌, ℕ, suc, ◌+◌, ◌*◌, ◌≤◌, List, [], ◌∷◌, length, Some, slice_get, refl, arith, ap, sym, ◌∙◌, subst}
 use Rattle.std.proofs.lemmas.List.{length-map}
 use Rattle.rx_rules.specs.declared.entries.Entry.{Entry}
-use Rattle.rx_rules.specs.Code.{Block, work}
-use Rattle.rx_rules.specs.Plays.{Starts, Moves, Birth, birth_of, travels, moves_from}
-use Rattle.rx_rules.specs.Run.{Given}
+use Rattle.rx_rules.proofs.Common.{Block, work, Starts, Moves, Birth, birth_of, travels, moves_from, Given}
 use Rattle.rx_runs.specs.AnyAnswers.{BeginsWork, EachWorks, sum_of, MadeIn}
 use Rattle.rx_runs.proofs.Making.{begins_work}
 use Rattle.rx_runs.proofs.Entering.{made_bounded}

@@ -1,22 +1,17 @@
 -- A legal history of a place has few events: each costs its task a store call of its own, whatever its entries went on to name,
 -- and the tasks' own store calls are bounded along the history of the ledger.
-use Rattle.std.specs.Prelude.{◌≡◌, ◌≢◌, ℕ, zero, suc, ◌+◌, ◌*◌, ◌<◌, ◌≤◌, Bool, true, false, ◌==◌, List, [], ◌∷◌, ◌++◌, length, slice_get, slice_set, sum_by, Some, refl}
+use Rattle.std.proofs.Common.{◌≡◌, ◌≢◌, ℕ, zero, suc, ◌+◌, ◌*◌, ◌<◌, ◌≤◌, Bool, true, false, ◌==◌, List, [], ◌∷◌, ◌++◌, length, slice_get, slice_set, sum_by, Some, refl, arith, ap, sym, ◌∙◌, subst, inl, inr}
 use Rattle.std.specs.List.{filter_map}
-use Rattle.std.proofs.Common.{arith, ap, sym, ◌∙◌, subst, inl, inr}
 use Rattle.std.proofs.Math.Nat.{suc-mul}
 use Rattle.std.proofs.lemmas.Bool.{eqb-true, eq-eqb, ne_eqb, true≢false}
 use Rattle.std.proofs.lemmas.List.{append-nil}
 use Rattle.std.proofs.lemmas.List.Sums.{sum_by-append, sum_by-cons}
 use mathlib.Core.List.{IsPrefix}
-use Rattle.rx_base.specs.declared.ids.PlaceId.{PlaceId}
+use Rattle.rx_rules.proofs.Common.{PlaceId, Block, Stmt, work, Term, Vars, Empty, items, Does, Local, does, child, granted, answered, Starts, Cells, Moves, cell_of, brought, Given}
 use Rattle.rx_base.proofs.Prefixes.{prefix-trans}
 use Rattle.rx_rules.specs.declared.entries.Act.{Act}
 use Rattle.rx_rules.specs.declared.entries.Act.TheVariants.{At as Calls, Spawn}
 use Rattle.rx_rules.specs.declared.events.PlaceEvent.{PlaceEvent}
-use Rattle.rx_rules.specs.Code.{Block, Stmt, work}
-use Rattle.rx_rules.specs.Terms.{Term, Vars, Empty, items, Does, Local, does, child, granted, answered}
-use Rattle.rx_rules.specs.Plays.{Starts, Cells, Moves, cell_of, brought}
-use Rattle.rx_rules.specs.Run.{Given}
 use Rattle.rx_runs.specs.Segments as segments
 use Rattle.rx_runs.specs.Segments.{Stand, StandGoes}
 use Rattle.rx_runs.proofs.Segments.{joined}

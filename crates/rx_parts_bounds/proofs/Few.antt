@@ -1,8 +1,7 @@
 -- A script that meets the checker's rules has few events at each place.
-use Rattle.std.specs.Prelude.{◌+◌, ◌*◌, ◌≤◌, length}
-use Rattle.std.proofs.Common.{arith}
+use Rattle.std.proofs.Common.{◌+◌, ◌*◌, ◌≤◌, length, arith}
 use Rattle.std.proofs.Math.Nat.{mul-le-mul_left, mul-le-mul_right}
-use Rattle.rx_rules.specs.Code.{work}
+use Rattle.rx_rules.proofs.Common.{work}
 use Rattle.rx_parts_bounds.specs.Nesting.{nest}
 use Rattle.rx_parts_bounds.specs.Bounds.{EventsAreFew}
 use Rattle.rx_check.proofs.Judging.{meets-work}

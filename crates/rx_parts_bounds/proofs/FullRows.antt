@@ -1,13 +1,8 @@
 -- The worked full heap is parts: five events of one task.
-use Rattle.std.specs.Prelude.{ℕ, zero, suc, [], ◌∷◌, slice_get, take, drop, refl}
+use Rattle.std.proofs.Common.{ℕ, zero, suc, [], ◌∷◌, slice_get, take, drop, refl, lit≤, subst}
 use Rattle.std.specs.List.{filter_map}
-use Rattle.std.proofs.Common.{lit≤, subst}
 use mathlib.Core.List.{IsPrefix}
-use Rattle.rx_base.specs.declared.values.Value.TheVariants.{Ref}
-use Rattle.rx_base.specs.declared.values.Fault.TheVariants.{HeapFull}
-use Rattle.rx_rules.specs.Terms.{Answer, Gives, Fine, Fails}
-use Rattle.rx_rules.specs.Plays.{cell_of, journal_at}
-use Rattle.rx_rules.specs.Examples.{t, p, full_script, full_setup}
+use Rattle.rx_rules.proofs.Common.{Ref, HeapFull, Answer, Gives, Fine, Fails, cell_of, journal_at, t, p, full_script, full_setup}
 use Rattle.rx_rules.proofs.Worked.{full_heap_runs}
 use Rattle.rx_parts.specs.Ledger.{Actor, stays, local, stores, hosts, asks, ends, LegalLedger}
 use Rattle.rx_parts.specs.Places.{LegalPlace}

@@ -1,12 +1,8 @@
 -- The history of two tasks that make blocks at one place is parts.
-use Rattle.std.specs.Prelude.{ℕ, zero, suc, [], ◌∷◌, ◌++◌, slice_get, refl}
+use Rattle.std.proofs.Common.{ℕ, zero, suc, [], ◌∷◌, ◌++◌, slice_get, refl, lit<, lit≤, subst}
 use Rattle.std.specs.List.{filter_map}
-use Rattle.std.proofs.Common.{lit<, lit≤, subst}
 use mathlib.Core.List.{IsPrefix}
-use Rattle.rx_base.specs.declared.values.Value.TheVariants.{Ref}
-use Rattle.rx_rules.specs.Terms.{Answer, Gives}
-use Rattle.rx_rules.specs.Plays.{cell_of, journal_at}
-use Rattle.rx_rules.specs.Examples.{t, p}
+use Rattle.rx_rules.proofs.Common.{Ref, Answer, Gives, cell_of, journal_at, t, p}
 use Rattle.rx_parts.specs.Ledger.{Actor, stays, stores, hosts, asks, ends, LegalLedger}
 use Rattle.rx_parts.specs.Places.{LegalPlace}
 use Rattle.rx_parts.specs.Parts.{AreParts, AllNamed, journals_of}

@@ -1,30 +1,18 @@
 -- Every whole run has parts.
-use Rattle.std.specs.Prelude.{◌≡◌, ℕ, zero, suc, ◌+◌, ◌<◌, ◌≤◌, true, List, [], ◌∷◌, ◌++◌, map, length, take, slice_get, Option, Some, None, refl}
+use Rattle.std.proofs.Common.{◌≡◌, ℕ, zero, suc, ◌+◌, ◌<◌, ◌≤◌, true, List, [], ◌∷◌, ◌++◌, map, length, take, slice_get, Option, Some, None, refl, arith, ap, sym, ◌∙◌, subst, inl, append_assoc}
 use Rattle.std.specs.List.{filter_map}
-use Rattle.std.proofs.Common.{arith, ap, sym, ◌∙◌, subst, inl, append_assoc}
 use Rattle.std.proofs.lemmas.List.{length-map, length-append}
 use Rattle.std.proofs.lemmas.List.Elements.{filter_map-append}
 use Rattle.std.proofs.lemmas.Bool.{eq-eqb}
 use mathlib.Core.List.{IsPrefix}
-use Rattle.rx_base.specs.declared.ids.PlaceId.{PlaceId}
-use Rattle.rx_base.specs.declared.ids.TaskId.{TaskId}
+use Rattle.rx_rules.proofs.Common.{PlaceId, TaskId, Block, Term, Vars, Empty, Answer, items, no_vars, does, begins, Tree, made, AllAllowed, births, births_of, opening, opens, Starts, Cells, Moves, Birth, Plays, Begins, EachPlays, Tells, birth_of, birth_from, travels, cell_of, journal_at, moves_from, State, IsStoreRun, after_cell, opening_state, Given, IsRun, PlanKept, plan_of, AllJournals, AtHome, NotFalling, ClosesAt, death_number, FromOn, events_of_task}
 use Rattle.rx_rules.specs.declared.entries.Act.TheVariants.{Arrive}
 use Rattle.rx_rules.specs.declared.entries.Entry.{Entry}
 use Rattle.rx_rules.specs.declared.entries.Entry.TheVariants.{Root}
 use Rattle.rx_rules.specs.declared.events.Cell.{Cell}
 use Rattle.rx_rules.specs.declared.events.PlaceEvent.{PlaceEvent}
 use Rattle.rx_rules.specs.declared.events.PlaceEvent.TheVariants.{Done as Did, Close}
-use Rattle.rx_rules.specs.Code.{Block}
-use Rattle.rx_rules.specs.Terms.{Term, Vars, Empty, Answer, items, no_vars, does, begins}
-use Rattle.rx_rules.specs.Tree.{Tree}
-use Rattle.rx_rules.specs.Entries.{made}
-use Rattle.rx_rules.specs.Fold.{AllAllowed, births, births_of, opening}
-use Rattle.rx_rules.specs.Reached.{opens}
 use Rattle.rx_rules.specs.Plays as rules
-use Rattle.rx_rules.specs.Plays.{Starts, Cells, Moves, Birth, Plays, Begins, EachPlays, Tells, birth_of, birth_from, travels, cell_of, journal_at, moves_from}
-use Rattle.rx_rules.specs.Store.{State, IsStoreRun, after_cell, opening_state}
-use Rattle.rx_rules.specs.Run.{Given, IsRun, PlanKept, plan_of, AllJournals, AtHome, NotFalling, ClosesAt, death_number}
-use Rattle.rx_rules.specs.Inversions.{FromOn, events_of_task}
 use Rattle.rx_rules.proofs.Inverting.{cells_from_low}
 use Rattle.rx_rules.proofs.Numbers.{next-made}
 use Rattle.rx_sound.proofs.Histories.{none_yet}

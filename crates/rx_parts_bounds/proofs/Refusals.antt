@@ -1,20 +1,14 @@
 -- What is not legal.
-use Rattle.std.specs.Prelude.{◌≡◌, ℕ, suc, ◌<◌, ◌≤◌, pos, List, [], ◌∷◌, ◌++◌, Some, slice_get, get_or, take, drop, refl}
-use Rattle.std.proofs.Common.{lit≤, arith, sym, subst}
+use Rattle.std.proofs.Common.{◌≡◌, ℕ, suc, ◌<◌, ◌≤◌, pos, List, [], ◌∷◌, ◌++◌, Some, slice_get, get_or, take, drop, refl, lit≤, arith, sym, subst}
 use mathlib.Core.List.{IsPrefix}
-use Rattle.rx_base.specs.declared.ids.PlaceId.{PlaceId}
-use Rattle.rx_base.specs.declared.ids.TaskId.{TaskId}
+use Rattle.rx_rules.proofs.Common.{PlaceId, TaskId, Block, Nothing, does, begins, Cells, Tells, Given, t, joining_script, joining_setup}
 use Rattle.rx_rules.specs.declared.entries.Act.{Act}
 use Rattle.rx_rules.specs.declared.entries.Act.TheVariants.{Print}
 use Rattle.rx_rules.specs.declared.entries.Entry.{Entry}
 use Rattle.rx_rules.specs.declared.entries.Entry.TheVariants.{Step}
 use Rattle.rx_rules.specs.declared.events.Cell.TheVariants.{Make}
 use Rattle.rx_rules.specs.declared.events.PlaceEvent.{PlaceEvent}
-use Rattle.rx_rules.specs.Code.{Block, Nothing}
-use Rattle.rx_rules.specs.Terms.{does, begins}
-use Rattle.rx_rules.specs.Plays.{Cells, Fits, Tells}
-use Rattle.rx_rules.specs.Run.{Given}
-use Rattle.rx_rules.specs.Examples.{t, joining_script, joining_setup}
+use Rattle.rx_rules.specs.Plays.{Fits}
 use Rattle.rx_runs.specs.Segments.{Stand}
 use Rattle.rx_runs.specs.AnyAnswers.{AsksStore}
 use Rattle.rx_parts.specs.Ledger.{Actor, Present, Walks, stays, local, stores, main_actor, ItemMakes, hosts, arrives, asks, ends, LegalLedger}

@@ -1,8 +1,7 @@
 -- The store calls of a script are within its work: those of the main task, and for each level of tasks inside tasks as many more.
-use Rattle.std.specs.Prelude.{◌≡◌, ℕ, zero, suc, ◌+◌, ◌*◌, ◌≤◌}
-use Rattle.std.proofs.Common.{arith, ap, sym, ◌∙◌, max}
+use Rattle.std.proofs.Common.{◌≡◌, ℕ, zero, suc, ◌+◌, ◌*◌, ◌≤◌, arith, ap, sym, ◌∙◌, max}
 use Rattle.std.proofs.Math.Nat.{mul_assoc, mul_comm, mul-suc, suc-mul, mul-le-mul_left, mul-le-mul_right}
-use Rattle.rx_rules.specs.Code.{Block, Nothing, Then, Stmt, Async, AtAsync, At, Finish, If, Repeat, Try, work, work_of}
+use Rattle.rx_rules.proofs.Common.{Block, Nothing, Then, Stmt, Async, AtAsync, At, Finish, If, Repeat, Try, work, work_of}
 use Rattle.rx_parts_bounds.specs.Nesting.{nest, nest_of}
 use Rattle.rx_parts_bounds.proofs.StoreCalls.{own, own_of, kids, kids_of}
 

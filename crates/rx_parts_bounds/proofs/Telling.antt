@@ -1,25 +1,16 @@
 -- A whole run is told item by item: each entry names the events that its task made since its entry before.
-use Rattle.std.specs.Prelude.{◌≡◌, ◌≢◌, ◌⊎◌, ℕ, suc, ◌+◌, ◌<◌, ◌≤◌, Bool, true, false, cond, not, ◌==◌, List, [], ◌∷◌, ◌++◌, length, slice_get, slice_set, Option, Some, None, All, refl}
+use Rattle.std.proofs.Common.{◌≡◌, ◌≢◌, ◌⊎◌, ℕ, suc, ◌+◌, ◌<◌, ◌≤◌, Bool, true, false, cond, not, ◌==◌, List, [], ◌∷◌, ◌++◌, length, slice_get, slice_set, Option, Some, None, All, refl, arith, ap, sym, ◌∙◌, subst, inl, inr, append_assoc, length-set}
 use Rattle.std.specs.List.{cons_option}
-use Rattle.std.proofs.Common.{arith, ap, sym, ◌∙◌, subst, inl, inr, append_assoc, length-set}
 use Rattle.std.proofs.lemmas.Bool.{eqb-true, eq-eqb, ne_eqb, true≢false}
 use Rattle.std.proofs.lemmas.List.Sums.{sum_by-cons}
-use Rattle.rx_base.specs.declared.ids.PlaceId.{PlaceId}
-use Rattle.rx_base.specs.declared.ids.TaskId.{TaskId}
-use Rattle.rx_base.specs.declared.values.Fault.{Fault}
+use Rattle.rx_rules.proofs.Common.{PlaceId, TaskId, Fault, Term, Vars, Done, does, granted, child, Tree, Allowed, made, AllAllowed, births, births_of, Reached, IsOlder, Starts, Cells, Moves, Birth, Plays, Begins, Tells, StartsSo, started_by, travels, brought, begun, vars_told, moves_from, birth_in, birth_from, FromOn}
 use Rattle.rx_base.proofs.Elements.{get-within}
 use Rattle.rx_rules.specs.declared.entries.Act.{Act}
 use Rattle.rx_rules.specs.declared.entries.Act.TheVariants.{At as Calls, Spawn, Arrive, End}
 use Rattle.rx_rules.specs.declared.entries.Entry.{Entry}
 use Rattle.rx_rules.specs.declared.entries.Entry.TheVariants.{Step, Root, Death, Join}
-use Rattle.rx_rules.specs.Terms.{Term, Vars, Done, does, granted, child}
-use Rattle.rx_rules.specs.Tree.{Tree}
-use Rattle.rx_rules.specs.Entries.{Allowed, made}
-use Rattle.rx_rules.specs.Fold.{AllAllowed, births, births_of}
-use Rattle.rx_rules.specs.Reached.{Reached, IsOlder}
 use Rattle.rx_rules.specs.Plays as rules
-use Rattle.rx_rules.specs.Plays.{Starts, Cells, Moves, Birth, Plays, Begins, Fits, Tells, StartsSo, started_by, travels, brought, begun, vars_told, moves_from, birth_in, birth_from}
-use Rattle.rx_rules.specs.Inversions.{FromOn}
+use Rattle.rx_rules.specs.Plays.{Fits}
 use Rattle.rx_rules.proofs.Inverting.{cells_from_low}
 use Rattle.rx_rules.proofs.Numbers.{next-made}
 use Rattle.rx_sound.proofs.Histories.{reached_now, dead-now}

@@ -1,14 +1,10 @@
 -- A place may tell both ways of an `if`, but no ledger has parts with it.
-use Rattle.std.specs.Prelude.{◌≡◌, ℕ, pos, List, [], ◌∷◌, Option, Some, slice_get, get_or, refl}
+use Rattle.std.proofs.Common.{◌≡◌, ℕ, pos, List, [], ◌∷◌, Option, Some, slice_get, get_or, refl, ap, lit<, lit≤, subst}
 use Rattle.std.specs.List.{filter_map}
-use Rattle.std.proofs.Common.{ap, lit<, lit≤, subst}
 use mathlib.Core.List.{IsPrefix}
-use Rattle.rx_base.specs.declared.values.Value.TheVariants.{Num as Number, Ref}
+use Rattle.rx_rules.proofs.Common.{Number, Ref, Answer, Gives, Birth, Cells, cell_of, journal_at, t, p}
 use Rattle.rx_base.proofs.Prefixes.{prefix-trans}
 use Rattle.rx_rules.specs.declared.events.Cell.{Cell}
-use Rattle.rx_rules.specs.Terms.{Answer, Gives}
-use Rattle.rx_rules.specs.Plays.{Birth, Cells, cell_of, journal_at}
-use Rattle.rx_rules.specs.Examples.{t, p}
 use Rattle.rx_parts.specs.Ledger.{LedgerItem, Actor, stays, local, stores, main_actor, asks, LegalLedger}
 use Rattle.rx_parts.specs.Places.{LegalPlace, journal_of}
 use Rattle.rx_parts.specs.Parts.{AreParts, journals_of}

@@ -1,14 +1,8 @@
 -- What a term may still do, weighed: each step leaves at most what there was.
-use Rattle.std.specs.Prelude.{◌≡◌, ℕ, suc, ℤ, ◌+◌, ◌-◌, ◌*◌, ◌≤◌, ◌<◌, nat_le, ◌==◌, Bool, true, false, cond, List, [], ◌∷◌, Option, Some, None, Result, Ok, Err, refl}
-use Rattle.std.proofs.Common.{ap, ◌∙◌, arith}
+use Rattle.std.proofs.Common.{◌≡◌, ℕ, suc, ℤ, ◌+◌, ◌-◌, ◌*◌, ◌≤◌, ◌<◌, nat_le, ◌==◌, Bool, true, false, cond, List, [], ◌∷◌, Option, Some, None, Result, Ok, Err, refl, ap, ◌∙◌, arith}
 use Rattle.std.proofs.Math.Nat.{suc-mul}
 use Rattle.std.proofs.lemmas.Bool.{leb-false}
-use Rattle.rx_base.specs.declared.values.Fault.{Fault}
-use Rattle.rx_base.specs.declared.ids.GlobalRef.{GlobalRef}
-use Rattle.rx_base.specs.declared.values.Value.TheVariants.{Num as Number}
-use Rattle.rx_base.specs.declared.values.Fault.TheVariants.{WrongPlace, Thrown}
-use Rattle.rx_rules.specs.Code.{Expr, Block, Nothing, Then, Stmt, SetTo, New, Get, Put, Forget, Census, Print, Throw, Async, AtAsync, At, Finish, If, Repeat, Try}
-use Rattle.rx_rules.specs.Terms.{bound, Term, Empty, Raise, Run, Turns, Trying, Body, Held, Does, Local, Gets, Puts, Forgets, Calls, Spawns, Prints, granted, stmt_granted, Vars, does, items, items_from, at, eval, with_number, with_place, target_of, on_ref, ref_in, is_zero, stmt_does, trying_does, body_does, catches, or_raise, raise, value_of, within, Answer, Gives, Fine, Fails, answered, replaced, after_it}
+use Rattle.rx_rules.proofs.Common.{Fault, GlobalRef, Number, WrongPlace, Thrown, Expr, Block, Nothing, Then, Stmt, SetTo, New, Get, Put, Forget, Census, Print, Throw, Async, AtAsync, At, Finish, If, Repeat, Try, bound, Term, Empty, Raise, Run, Turns, Trying, Body, Held, Does, Local, Gets, Puts, Forgets, Calls, Spawns, Prints, granted, stmt_granted, Vars, does, items, items_from, at, eval, with_number, with_place, target_of, on_ref, ref_in, is_zero, stmt_does, trying_does, body_does, catches, or_raise, raise, value_of, within, Answer, Gives, Fine, Fails, answered, replaced, after_it}
 
 -- weights of statements and blocks: a block has those of its statements, and no statement weighs less than what it leaves
 pub record Weighs (f : Stmt → ℕ) (g : Block → ℕ) : Type 0 where

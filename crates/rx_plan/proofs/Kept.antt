@@ -1,8 +1,7 @@
 -- How values are kept: lists of which only the first slots are there.
-use Rattle.std.proofs.Common.{◌≡◌, ℕ, ◌+◌, ◌-◌, ◌<◌, ◌≤◌, List, ◌++◌, length, take, replicate, Option, None, ap, sym, ◌∙◌, arith, append_assoc, length-append}
-use Rattle.std.specs.Prelude.{slice_set}
+use Rattle.std.proofs.Common.{◌≡◌, ℕ, ◌+◌, ◌-◌, ◌<◌, ◌≤◌, List, ◌++◌, length, take, replicate, Option, None, ap, sym, ◌∙◌, arith, append_assoc, length-append, slice_set}
 use Rattle.std.proofs.lemmas.List.{take_all, length-set, length-replicate, set-append_left, replicate-append-replicate}
-use Rattle.rx_base.specs.declared.values.Value.{Value}
+use Rattle.rx_rules.proofs.Common.{Value}
 use Rattle.rx_plan.specs.Inside.Kept.{padded}
 
 -- a slot that is there

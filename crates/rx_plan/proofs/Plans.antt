@@ -1,11 +1,6 @@
 -- Plans of statements whose names are given by an equation.
 use Rattle.std.proofs.Common.{◌≡◌, ◌≢◌, ℕ, ℤ, List, Option, Some, None, Bool, cond, ◌==◌, refl, ap, sym, ◌∙◌, subst}
-use Rattle.rx_base.specs.declared.values.Value.TheVariants.{Num as Number}
-use Rattle.rx_base.specs.declared.ids.GlobalRef.{GlobalRef}
-use Rattle.rx_base.specs.declared.ids.PlaceId.{PlaceId}
-use Rattle.rx_base.specs.declared.values.Fault.TheVariants.{WrongPlace, Thrown}
-use Rattle.rx_rules.specs.Code.{Expr, Stmt, SetTo, Get, Put, Throw, If, Repeat, Try}
-use Rattle.rx_rules.specs.Terms.{Vars, Term, Does, Local, Gets, Puts, bound, raise, ref_in, value_of, eval, with_number, is_zero, items, at, stmt_does}
+use Rattle.rx_rules.proofs.Common.{Number, GlobalRef, PlaceId, WrongPlace, Thrown, Expr, Stmt, SetTo, Get, Put, Throw, If, Repeat, Try, Vars, Term, Does, Local, Gets, Puts, bound, raise, ref_in, value_of, eval, with_number, is_zero, items, at, stmt_does}
 use Rattle.rx_syntax.specs.declared.nodes.ExprId.{ExprId}
 use Rattle.rx_syntax.specs.declared.nodes.BlockId.{BlockId}
 use Rattle.rx_syntax.specs.declared.nodes.NameId.{NameId}

@@ -1,9 +1,6 @@
 -- Which request a told step is.
-use Rattle.std.specs.Prelude.{◌≡◌, ℕ, ℤ, List, refl}
-use Rattle.std.proofs.Common.{ap}
-use Rattle.rx_base.specs.declared.ids.PlaceId.{PlaceId}
-use Rattle.rx_base.specs.declared.values.Fault.{Fault}
-use Rattle.rx_rules.specs.Terms.{Does, Local, Makes, Gets, Puts, Forgets, Opens, Calls, Spawns, Waits, Releases, Prints, Counts, Done}
+use Rattle.std.proofs.Common.{◌≡◌, ℕ, ℤ, List, refl, ap}
+use Rattle.rx_rules.proofs.Common.{PlaceId, Fault, Does, Local, Makes, Gets, Puts, Forgets, Opens, Calls, Spawns, Waits, Releases, Prints, Counts, Done}
 use Rattle.rx_history.specs.declared.step.Want.TheVariants.{Open, At, Spawn, Wait, Release, Print, Census}
 use Rattle.rx_history.specs.declared.step.Next.TheVariants.{Book, Done as Ended}
 use Rattle.rx_history.specs.Next.{next_of}

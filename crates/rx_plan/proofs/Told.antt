@@ -1,7 +1,6 @@
 -- What the next step tells of what a term does.
-use Rattle.std.specs.Prelude.{◌≡◌, ℕ, List, Some, refl}
-use Rattle.rx_base.specs.declared.values.Fault.{Fault}
-use Rattle.rx_rules.specs.Terms.{Vars, Term, Does, Local, Makes, Gets, Puts, Forgets, Opens, Calls, Spawns, Waits, Releases, Prints, Counts, Done}
+use Rattle.std.proofs.Common.{◌≡◌, ℕ, List, Some, refl}
+use Rattle.rx_rules.proofs.Common.{Fault, Vars, Term, Does, Local, Makes, Gets, Puts, Forgets, Opens, Calls, Spawns, Waits, Releases, Prints, Counts, Done}
 use Rattle.rx_history.specs.declared.step.Next.TheVariants.{Local as LocalStep, Book}
 use Rattle.rx_history.specs.declared.step.Want.TheVariants.{Wait, Census}
 use Rattle.rx_history.specs.Next.{next_of, carried}

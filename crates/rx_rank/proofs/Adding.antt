@@ -1,6 +1,5 @@
 -- A tree of counts whose nodes are added up one by one, what its root counts, and the way down from it.
-use Rattle.std.specs.Prelude.{◌≡◌, ◌≢◌, ℕ, zero, suc, ◌+◌, ◌-◌, ◌*◌, ◌/◌, ◌^◌, ◌<◌, ◌≤◌, Bool, true, false, List, [], ◌∷◌, ◌++◌, length, take, drop, set, replicate, sum, Some, slice_get, slice_index, refl}
-use Rattle.std.proofs.Common.{arith, append_assoc, ap, sym, subst, ◌∙◌, inl, inr}
+use Rattle.std.proofs.Common.{◌≡◌, ◌≢◌, ℕ, zero, suc, ◌+◌, ◌-◌, ◌*◌, ◌/◌, ◌^◌, ◌<◌, ◌≤◌, Bool, true, false, List, [], ◌∷◌, ◌++◌, length, take, drop, set, replicate, sum, Some, slice_get, slice_index, refl, arith, append_assoc, ap, sym, subst, ◌∙◌, inl, inr}
 use Rattle.std.proofs.lemmas.Bool.{cases_eq, cases_lt}
 use mir.Val.{bool_byte}
 use Rattle.std.proofs.lemmas.List.{set-get_or, drop_at, length-set, length-append, length-replicate, length-drop, get_or-set_same, get_or-set_other, get_or-replicate, get_or-append_right, get_or_append_left, get_or-drop, get_or_past, take_all, drop-set-lt, drop-set-add}

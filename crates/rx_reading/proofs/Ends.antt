@@ -1,10 +1,9 @@
 -- Where loops end.
-use Rattle.std.proofs.Common.{◌≡◌, ℕ, ◌+◌, ◌≤◌, Bool, true, false, cond, nat_le, ◌&&◌, not, ◌==◌, List, [], ◌∷◌, ◌++◌, length, drop, suc, refl, ap, sym, ◌∙◌, subst, arith, length-append}
-use Rattle.std.specs.Prelude.{Option, Some, None, option_map, slice_get, ℤ, FitsSigned}
+use Rattle.std.proofs.Common.{◌≡◌, ℕ, ◌+◌, ◌≤◌, Bool, true, false, cond, nat_le, ◌&&◌, not, ◌==◌, List, [], ◌∷◌, ◌++◌, length, drop, suc, refl, ap, sym, ◌∙◌, subst, arith, length-append, Option, Some, None, option_map, slice_get, ℤ, FitsSigned}
 use Rattle.std.specs.Int.{w64}
 use Rattle.std.proofs.lemmas.Bool.{eqb-true, and_parts, le-leb}
 use Rattle.std.proofs.lemmas.Option.{same_Some, none-some}
-use Rattle.rx_base.specs.declared.ids.Kill.{Kill}
+use Rattle.rx_rules.proofs.Common.{Kill, Given}
 use Rattle.rx_text.proofs.Lists.{left-more}
 use Rattle.rx_history.specs.Events.{AllEvents}
 use Rattle.rx_history.specs.KillOrder.{ComesLast}
@@ -13,7 +12,6 @@ use Rattle.rx_history.specs.Logs.{Log}
 use Rattle.rx_trace.specs.Text.{trace_text}
 use Rattle.rx_rules.specs.declared.entries.Entry.{Entry}
 use Rattle.rx_rules.specs.declared.events.PlaceEvent.{PlaceEvent}
-use Rattle.rx_rules.specs.Run.{Given}
 use Rattle.rx_reading.specs.Limits.{IsWithin}
 use Rattle.rx_fields.specs.Inside.FieldWords.{next, number_below, number_of, number_at}
 use Rattle.rx_history.specs.KillOrder.{is_before}

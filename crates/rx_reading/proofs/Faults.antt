@@ -1,12 +1,9 @@
 -- The words of faults.
-use Rattle.std.proofs.Common.{◌≡◌, ℕ, ◌<◌, ◌≤◌, Bool, true, false, cond, ◌==◌, List, [], ◌∷◌, ◌++◌, refl, ap, ◌∙◌, subst, arith}
-use Rattle.std.specs.Prelude.{Option, Some, None, option_map, codes, ℤ}
+use Rattle.std.proofs.Common.{◌≡◌, ℕ, ◌<◌, ◌≤◌, Bool, true, false, cond, ◌==◌, List, [], ◌∷◌, ◌++◌, refl, ap, ◌∙◌, subst, arith, Option, Some, None, option_map, codes, ℤ}
 use Rattle.std.specs.Str.{bytes_eq}
 use Rattle.std.proofs.lemmas.Bool.{eqb-false}
 use Rattle.std.proofs.lemmas.Option.{same_Some, none-some}
-use Rattle.rx_base.specs.declared.ids.PlaceId.{PlaceId}
-use Rattle.rx_base.specs.declared.values.Fault.{Fault}
-use Rattle.rx_base.specs.declared.values.Fault.TheVariants.{Dead, Thrown, Overflow, NoPlace, WrongPlace, Stale, Index, HeapFull}
+use Rattle.rx_rules.proofs.Common.{PlaceId, Fault, Dead, Thrown, Overflow, NoPlace, WrongPlace, Stale, Index, HeapFull}
 use Rattle.rx_text.specs.Numbers.{natural_text, number_text}
 use Rattle.rx_trace.specs.Fields.{fault_field}
 use Rattle.rx_reading.specs.Limits.{FitsFault}

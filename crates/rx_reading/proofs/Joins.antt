@@ -1,14 +1,12 @@
 -- The line of the joins.
-use Rattle.std.proofs.Common.{◌≡◌, ℕ, ◌+◌, ◌-◌, ◌<◌, ◌≤◌, Bool, true, false, cond, ◌&&◌, ◌||◌, nat_le, nat_lt, List, [], ◌∷◌, ◌++◌, length, zero, suc, refl, ap, sym, ◌∙◌, subst, arith}
-use Rattle.std.specs.Prelude.{Option, Some, None, option_map, slice_get, codes}
+use Rattle.std.proofs.Common.{◌≡◌, ℕ, ◌+◌, ◌-◌, ◌<◌, ◌≤◌, Bool, true, false, cond, ◌&&◌, ◌||◌, nat_le, nat_lt, List, [], ◌∷◌, ◌++◌, length, zero, suc, refl, ap, sym, ◌∙◌, subst, arith, Option, Some, None, option_map, slice_get, codes}
 use Rattle.std.specs.List.{AllByRecursion, flat_map}
 use Rattle.std.specs.Str.{bytes_eq}
 use Rattle.std.proofs.lemmas.Bool.{and_parts, and_from, ltb-true, ltb-false, le-leb}
 use Rattle.std.proofs.lemmas.Bool.Decides.{nat_tests}
 use Rattle.std.proofs.lemmas.Option.{same_Some, none-some, slice_get_within}
-use Rattle.rx_base.specs.declared.ids.Kill.{Kill}
+use Rattle.rx_rules.proofs.Common.{Kill, Given, in_all, AreKills, AreJoins}
 use Rattle.rx_base.proofs.Elements.{get-within, rest-is}
-use Rattle.rx_rules.specs.Run.{Given, in_all, AreKills, AreJoins}
 use Rattle.rx_text.specs.Numbers.{natural_text}
 use Rattle.rx_trace.specs.Fields.{natural_field}
 use Rattle.rx_fields.specs.Words.{Lacks, pieces, fields}

@@ -1,14 +1,12 @@
 -- What has been read so far, its text, and one line more.
-use Rattle.std.proofs.Common.{◌≡◌, ℕ, ◌+◌, ◌<◌, ◌≤◌, ◌^◌, Bool, true, false, cond, ◌&&◌, ◌==◌, nat_lt, List, [], ◌∷◌, ◌++◌, length, refl, ap, sym, ◌∙◌, subst, arith, append-nil, append_assoc, length-append}
-use Rattle.std.specs.Prelude.{Option, Some, None, option_map, codes}
+use Rattle.std.proofs.Common.{◌≡◌, ℕ, ◌+◌, ◌<◌, ◌≤◌, ◌^◌, Bool, true, false, cond, ◌&&◌, ◌==◌, nat_lt, List, [], ◌∷◌, ◌++◌, length, refl, ap, sym, ◌∙◌, subst, arith, append-nil, append_assoc, length-append, Option, Some, None, option_map, codes}
 use Rattle.std.specs.List.{AllByRecursion, flat_map}
 use Rattle.std.specs.Str.{bytes_eq}
 use Rattle.std.proofs.lemmas.Bool.{eqb-true, and_parts, ltb-true}
 use Rattle.std.proofs.lemmas.Option.{same_Some, none-some}
-use Rattle.rx_base.specs.declared.ids.Kill.{Kill}
+use Rattle.rx_rules.proofs.Common.{Kill, Given, in_all}
 use Rattle.rx_rules.specs.declared.entries.Entry.{Entry}
 use Rattle.rx_rules.specs.declared.events.PlaceEvent.{PlaceEvent}
-use Rattle.rx_rules.specs.Run.{Given, in_all}
 use Rattle.rx_text.specs.Numbers.{natural_text}
 use Rattle.rx_trace.specs.EntryLines.{entry_text, entry_line, entry_lines}
 use Rattle.rx_trace.specs.EventLines.{event_text, event_line, event_lines, journal_lines, journals_lines}

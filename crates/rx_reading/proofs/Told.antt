@@ -1,10 +1,9 @@
 -- Lines that have to be entries or events.
-use Rattle.std.proofs.Common.{◌≡◌, ℕ, ◌+◌, ◌==◌, Bool, true, false, nat_lt, not, ◌&&◌, List, [], ◌∷◌, ◌++◌, length, slice_index, refl, ap}
-use Rattle.std.specs.Prelude.{codes}
+use Rattle.std.proofs.Common.{◌≡◌, ℕ, ◌+◌, ◌==◌, Bool, true, false, nat_lt, not, ◌&&◌, List, [], ◌∷◌, ◌++◌, length, slice_index, refl, ap, codes}
 use Rattle.std.specs.Str.{bytes_eq}
 use Rattle.rx_rules.specs.declared.entries.Entry.{Entry}
 use Rattle.rx_rules.specs.declared.events.PlaceEvent.{PlaceEvent}
-use Rattle.rx_rules.specs.Run.{Given, in_all}
+use Rattle.rx_rules.proofs.Common.{Given, in_all}
 use Rattle.rx_reading.specs.Inside.Machine.{Entering, Logging, begins_journal, told_there}
 
 -- a line that does not begin with the letter j begins no journal

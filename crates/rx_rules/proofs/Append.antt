@@ -1,19 +1,11 @@
 -- Histories with one entry more, and what each entry leaves.
-use Rattle.std.specs.Prelude.{◌≡◌, ℕ, suc, ◌+◌, List, [], ◌∷◌, ◌++◌, length, filter, not, Option, Some, None, refl}
-use Rattle.std.proofs.Common.{ap, ◌∙◌, arith}
-use Rattle.rx_base.specs.declared.place_set.PlaceSet.{PlaceSet}
-use Rattle.rx_base.specs.declared.ids.PlaceId.{PlaceId}
-use Rattle.rx_base.specs.declared.ids.TaskId.{TaskId}
-use Rattle.rx_base.specs.declared.values.Fault.{Fault}
+use Rattle.std.proofs.Common.{◌≡◌, ℕ, suc, ◌+◌, List, [], ◌∷◌, ◌++◌, length, filter, not, Option, Some, None, refl, ap, ◌∙◌, arith}
+use Rattle.rx_rules.proofs.Common.{PlaceSet, PlaceId, TaskId, Fault, Tree, is_task, task_of, made, made_act, after_end, change_scope, fold_from, tree_of, opening, NoRoot, EndsWithRoot}
 use Rattle.rx_rules.specs.declared.entries.Act.{Act}
 use Rattle.rx_rules.specs.declared.entries.Act.TheVariants.{Open, At as Calls, Spawn, Arrive, Wait, Release, End, Print, Census}
 use Rattle.rx_rules.specs.declared.entries.Entry.{Entry}
 use Rattle.rx_rules.specs.declared.entries.Entry.TheVariants.{Step, Root, Death, Join}
 use Rattle.rx_rules.specs.declared.tasks.Task.{Task}
-use Rattle.rx_rules.specs.Tree.{Tree, is_task, task_of}
-use Rattle.rx_rules.specs.Entries.{made, made_act, after_end, change_scope}
-use Rattle.rx_rules.specs.Fold.{fold_from, tree_of, opening}
-use Rattle.rx_rules.specs.Run.{NoRoot, EndsWithRoot}
 
 -- The tree of a longer history.
 

@@ -1,10 +1,8 @@
 -- The number of a place's death, with one entry more.
-use Rattle.std.specs.Prelude.{◌≡◌, ℕ, suc, ◌+◌, List, [], ◌∷◌, ◌++◌, length, Option, Some, None, ◌==◌, Bool, true, false, refl}
-use Rattle.std.proofs.Common.{ap, ◌∙◌, sym, arith}
-use Rattle.rx_base.specs.declared.ids.PlaceId.{PlaceId}
+use Rattle.std.proofs.Common.{◌≡◌, ℕ, suc, ◌+◌, List, [], ◌∷◌, ◌++◌, length, Option, Some, None, ◌==◌, Bool, true, false, refl, ap, ◌∙◌, sym, arith}
+use Rattle.rx_rules.proofs.Common.{PlaceId, death_number}
 use Rattle.rx_rules.specs.declared.entries.Entry.{Entry}
 use Rattle.rx_rules.specs.declared.entries.Entry.TheVariants.{Step, Root, Death, Join}
-use Rattle.rx_rules.specs.Run.{death_number}
 
 abbrev pub first_of : Option ℕ → Option ℕ → Option ℕ
 first_of (Some k) o = Some k

@@ -1,19 +1,13 @@
 -- What a task plays, read backwards: its end is last, its arrival first.
-use Rattle.std.specs.Prelude.{◌≡◌, ℕ, zero, suc, ◌+◌, ◌<◌, ◌≤◌, Bool, true, false, List, [], ◌∷◌, ◌++◌, length, refl}
-use Rattle.std.proofs.Common.{arith, subst, sym, ap}
-use Rattle.rx_base.specs.declared.ids.PlaceId.{PlaceId}
-use Rattle.rx_base.specs.declared.values.Fault.{Fault}
+use Rattle.std.proofs.Common.{◌≡◌, ℕ, zero, suc, ◌+◌, ◌<◌, ◌≤◌, Bool, true, false, List, [], ◌∷◌, ◌++◌, length, refl, arith, subst, sym, ap}
+use Rattle.rx_rules.proofs.Common.{PlaceId, Fault, Term, Vars, Does, Local, Makes, Gets, Puts, Forgets, Opens, Calls as Asks, Spawns, Waits, Releases, Prints, Counts, Done, does, Plays, asks, ends, stops, Begins, EachPlays, birth_of, travels, Block, Given, IsRun, births, UpTo, FromOn, acts_of, events_of_task}
 use Rattle.rx_rules.specs.declared.entries.Act.{Act}
 use Rattle.rx_rules.specs.declared.entries.Act.TheVariants.{Open, At as Calls, Spawn, Arrive, Wait, Release, End, Print, Census}
 use Rattle.rx_rules.specs.declared.entries.Entry.{Entry}
 use Rattle.rx_rules.specs.declared.events.Cell.{Cell}
 use Rattle.rx_rules.specs.declared.events.PlaceEvent.{PlaceEvent}
-use Rattle.rx_rules.specs.Terms.{Term, Vars, Does, Local, Makes, Gets, Puts, Forgets, Opens, Calls as Asks, Spawns, Waits, Releases, Prints, Counts, Done, does}
-use Rattle.rx_rules.specs.Plays.{Plays, local, stores, asks, ends, stops, Fits, Begins, EachPlays, birth_of, travels}
-use Rattle.rx_rules.specs.Code.{Block}
-use Rattle.rx_rules.specs.Run.{Given, IsRun}
-use Rattle.rx_rules.specs.Fold.{births}
-use Rattle.rx_rules.specs.Inversions.{EndsLast, ArrivesFirst, NeverArrived, UpTo, FromOn, acts_of, events_of_task}
+use Rattle.rx_rules.specs.Plays.{local, stores, Fits}
+use Rattle.rx_rules.specs.Inversions.{EndsLast, ArrivesFirst, NeverArrived}
 
 -- no request is an end
 pub asks_no_end : (here : PlaceId) (t : Term) (d : Does) (thrown : List Fault) → Fits here t d (End thrown) → ⊥

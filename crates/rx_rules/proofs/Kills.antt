@@ -1,9 +1,7 @@
 -- The order of kills.
-use Rattle.std.specs.Prelude.{ℕ, ◌<◌, ◌≤◌, List, [], ◌∷◌}
-use Rattle.std.proofs.Common.{inl, inr, arith}
-use Rattle.rx_base.specs.declared.ids.Kill.{Kill}
+use Rattle.std.proofs.Common.{ℕ, ◌<◌, ◌≤◌, List, [], ◌∷◌, inl, inr, arith}
+use Rattle.rx_rules.proofs.Common.{Kill, ComesAfter, Event, IsDue, NoneDue}
 use Rattle.rx_rules.specs.declared.entries.Entry.{Entry}
-use Rattle.rx_rules.specs.Run.{ComesAfter, Event, IsDue, NoneDue}
 
 -- what comes after a later kill comes after the earlier one
 pub further : (a b c : Kill) → ComesAfter a b → ComesAfter b c → ComesAfter a c

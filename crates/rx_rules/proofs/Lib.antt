@@ -8,3 +8,4 @@ pub mod Kills
 pub mod Deaths
 pub mod Setups
 pub mod Plans
+pub mod Common

@@ -1,17 +1,12 @@
 -- The next task number of a fold counts the births.
-use Rattle.std.specs.Prelude.{◌≡◌, ℕ, suc, ◌+◌, List, [], ◌∷◌, ◌++◌, not, filter, Some, None, refl}
-use Rattle.std.proofs.Common.{sym, subst, ◌∙◌, arith, add-zero, add-one}
+use Rattle.std.proofs.Common.{◌≡◌, ℕ, suc, ◌+◌, List, [], ◌∷◌, ◌++◌, not, filter, Some, None, refl, sym, subst, ◌∙◌, arith, add-zero, add-one}
 use Rattle.std.proofs.lemmas.List.Sums.{sum_by-cons}
-use Rattle.rx_base.specs.declared.values.Fault.{Fault}
-use Rattle.rx_base.specs.declared.ids.TaskId.{TaskId}
+use Rattle.rx_rules.proofs.Common.{Fault, TaskId, Tree, is_task, task_of, made, after_end, change_scope, AllAllowed, births, births_of, fold_from, tree_of, opening}
 use Rattle.rx_rules.specs.declared.entries.Act.TheVariants.{Open, At as Calls, Spawn, Arrive, Wait, Release, End, Print, Census}
 use Rattle.rx_rules.specs.declared.entries.Entry.{Entry}
 use Rattle.rx_rules.specs.declared.entries.Entry.TheVariants.{Step, Root, Death, Join}
-use Rattle.rx_rules.specs.Tree.{Tree, is_task, task_of}
-use Rattle.rx_rules.specs.Entries.{made, after_end, change_scope}
 use Rattle.rx_rules.specs.Inversions.{NumbersInOrder, CountFrom, born_in, opened_in}
 use Rattle.std.specs.List.{filter_map}
-use Rattle.rx_rules.specs.Fold.{AllAllowed, births, births_of, fold_from, tree_of, opening}
 
 pub next-after_end : (T : Tree) (t : TaskId) (thrown : List Fault) → (after_end T t thrown).next_task ≡ T.next_task
 next-after_end T t thrown =

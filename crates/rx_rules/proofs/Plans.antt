@@ -1,9 +1,8 @@
 -- The events of a plan, in their order: what a plan starts with.
 use Rattle.std.proofs.Common.{◌≡◌, ℕ, suc, ◌<◌, ◌≤◌, Bool, true, false, cond, nat_le, List, [], ◌∷◌, refl, ap, ◌∙◌, arith}
 use Rattle.std.proofs.lemmas.Bool.Decides.{nat_tests}
-use Rattle.rx_base.specs.declared.ids.Kill.{Kill}
+use Rattle.rx_rules.proofs.Common.{Kill, Event, put_in, events, AreJoins}
 use Rattle.rx_rules.specs.declared.entries.Entry.TheVariants.{Death, Join}
-use Rattle.rx_rules.specs.Run.{Event, put_in, events, AreJoins}
 
 -- the join of place p at moment e
 abbrev pub join_at : ℕ → ℕ → Event

@@ -1,8 +1,7 @@
 -- Which setups are proper.
-use Rattle.std.specs.Prelude.{◌≡◌, zero, suc, ◌+◌, ◌≤◌, refl}
-use Rattle.std.proofs.Common.{lit<, lit≤, arith}
-use Rattle.rx_rules.specs.Run.{Proper, Joined}
-use Rattle.rx_rules.specs.Examples.{p, joiner_setup}
+use Rattle.std.proofs.Common.{◌≡◌, zero, suc, ◌+◌, ◌≤◌, refl, lit<, lit≤, arith}
+use Rattle.rx_rules.proofs.Common.{Proper, Joined, p}
+use Rattle.rx_rules.specs.Examples.{joiner_setup}
 
 -- a place that joins at moment 5 does not die before
 pub early_kill : Proper (joiner_setup 4) → ⊥

@@ -1,16 +1,10 @@
 -- The worked histories are whole runs.
-use Rattle.std.specs.Prelude.{◌≡◌, ℕ, zero, suc, ◌+◌, ◌<◌, pos, nat_le, true, false, [], ◌∷◌, refl}
-use Rattle.std.proofs.Common.{lit<, lit≤, arith}
+use Rattle.std.proofs.Common.{◌≡◌, ℕ, zero, suc, ◌+◌, ◌<◌, pos, nat_le, true, false, [], ◌∷◌, refl, lit<, lit≤, arith}
 use Rattle.std.proofs.lemmas.Bool.Decides.{nat_tests}
-use Rattle.rx_base.specs.declared.values.Value.TheVariants.{Num as Number, Ref}
-use Rattle.rx_base.specs.declared.values.Fault.TheVariants.{Stale, HeapFull}
+use Rattle.rx_rules.proofs.Common.{Number, Ref, Stale, HeapFull, Num, Here, Throw, Nothing, Then, Print as Prints, AtAsync, Finish, Term, Vars, no_vars, bound, Empty, items, Gives, Fine, Fails, asks, ends, stops, State, opening_state, after_cell, IsLeastFree, fits, IsRun, adoption_script, adoption_setup, at_waits, full_heap_journals, full_script, full_setup, kill_setup, loss_in_transit, loss_in_transit_journals, ordinary_case, ordinary_case_journals, ordinary_script, ordinary_setup, orphan_script, p, source_script, stale_reference, stale_reference_journals, stale_script, masked_script, joining_script, joining_setup}
 use Rattle.rx_rules.specs.declared.events.Cell.TheVariants.{Make}
-use Rattle.rx_rules.specs.Code.{Num, Here, Throw, Nothing, Then, Print as Prints, AtAsync, Finish}
-use Rattle.rx_rules.specs.Terms.{Term, Vars, no_vars, bound, Empty, items, Gives, Fine, Fails}
-use Rattle.rx_rules.specs.Plays.{local, stores, asks, ends, stops}
-use Rattle.rx_rules.specs.Store.{State, opening_state, after_cell, IsLeastFree, fits}
-use Rattle.rx_rules.specs.Run.{IsRun}
-use Rattle.rx_rules.specs.Examples.{adoption, adoption_journals, adoption_script, adoption_setup, at_waits, at_waits_journals, full_heap, full_heap_journals, full_script, full_setup, kill_setup, loss_in_transit, loss_in_transit_journals, ordinary_case, ordinary_case_journals, ordinary_script, ordinary_setup, orphan_script, orphan_setup, p, source_dies, source_dies_journals, source_script, source_setup, stale_reference, stale_reference_journals, stale_script, two_kills_setup, two_losses, two_losses_journals, masked_script, masked_setup, masked_fault, masked_fault_journals, joining_script, joining_setup, joining_place, joining_place_journals, brief_setup, brief_place, brief_place_journals}
+use Rattle.rx_rules.specs.Plays.{local, stores}
+use Rattle.rx_rules.specs.Examples.{adoption, adoption_journals, at_waits_journals, full_heap, orphan_setup, source_dies, source_dies_journals, source_setup, two_kills_setup, two_losses, two_losses_journals, masked_setup, masked_fault, masked_fault_journals, joining_place, joining_place_journals, brief_setup, brief_place, brief_place_journals}
 
 -- a task at its birth, where so many places are known and no name has a value
 abbrev fresh : ℕ → Term → Term × Vars

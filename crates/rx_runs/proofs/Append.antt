@@ -1,11 +1,8 @@
 -- Folds of a longer history, and of the front of a history.
-use Rattle.std.specs.Prelude.{ℕ, suc, List, [], ◌∷◌, ◌++◌}
+use Rattle.std.proofs.Common.{ℕ, suc, List, [], ◌∷◌, ◌++◌}
 use Rattle.rx_rules.specs.declared.entries.Entry.{Entry}
 use Rattle.rx_rules.specs.declared.entries.Entry.TheVariants.{Step, Root, Death, Join}
-use Rattle.rx_rules.specs.Tree.{Tree}
-use Rattle.rx_rules.specs.Entries.{Allowed, made}
-use Rattle.rx_rules.specs.Fold.{fold_from, AllAllowed}
-use Rattle.rx_rules.specs.Run.{Event, PlanKept, rest_of}
+use Rattle.rx_rules.proofs.Common.{Tree, Allowed, made, fold_from, AllAllowed, Event, PlanKept, rest_of}
 
 pub allowed-push : (n : ℕ) (T : Tree) (es : List Entry) (e : Entry) → AllAllowed n T es → Allowed (fold_from n T es) e → AllAllowed n T (es ++ e ∷ [])
 allowed-push n T [] e h a = (a, tt)

@@ -1,19 +1,11 @@
 -- What a term asks of the ledger is one act.
-use Rattle.std.specs.Prelude.{◌≡◌, ℕ, ℤ, ◌<◌, ◌^◌, List, Some}
-use Rattle.std.proofs.Common.{ap, ◌∙◌, sym, subst}
-use Rattle.rx_base.specs.declared.ids.PlaceId.{PlaceId}
-use Rattle.rx_base.specs.declared.ids.TaskId.{TaskId}
-use Rattle.rx_base.specs.declared.ids.ScopeId.{ScopeId}
-use Rattle.rx_base.specs.declared.place_set.PlaceSet.{PlaceSet}
-use Rattle.rx_base.specs.declared.values.Fault.{Fault}
+use Rattle.std.proofs.Common.{◌≡◌, ℕ, ℤ, ◌<◌, ◌^◌, List, Some, ap, ◌∙◌, sym, subst}
+use Rattle.rx_rules.proofs.Common.{PlaceId, TaskId, ScopeId, PlaceSet, Fault, Term, Does, Local, Makes, Gets, Puts, Forgets, Opens, Calls as Asks, Spawns, Waits, Releases, Prints, Counts, Done, Tree, task_of, inner, governs, MayFree, AllowedAct}
 use Rattle.rx_base.proofs.SameIds.{scope-is, task-is, place-is}
 use Rattle.rx_rules.specs.declared.tasks.Task.{Task}
 use Rattle.rx_rules.specs.declared.tasks.Scope.{Scope}
 use Rattle.rx_rules.specs.declared.entries.Act.{Act}
 use Rattle.rx_rules.specs.declared.entries.Act.TheVariants.{Open, At as Calls, Spawn, Arrive, Wait, Release, End, Print, Census}
-use Rattle.rx_rules.specs.Terms.{Term, Does, Local, Makes, Gets, Puts, Forgets, Opens, Calls as Asks, Spawns, Waits, Releases, Prints, Counts, Done}
-use Rattle.rx_rules.specs.Tree.{Tree, task_of, inner, governs}
-use Rattle.rx_rules.specs.Entries.{MayFree, AllowedAct}
 use Rattle.rx_rules.specs.Plays.{Fits}
 use Rattle.rx_runs.specs.PickedRuns.{ActFits}
 use Rattle.rx_runs.proofs.Sets.{members_once}

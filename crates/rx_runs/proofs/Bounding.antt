@@ -1,28 +1,18 @@
 -- No run is longer than what its script, its plan and the main task's end cost.
-use Rattle.std.specs.Prelude.{◌≡◌, ◌≢◌, ℕ, zero, suc, ◌+◌, ◌*◌, ◌<◌, ◌≤◌, ◌%◌, Bool, true, false, cond, List, [], ◌∷◌, ◌++◌, length, slice_get, slice_set, Option, Some, None, refl}
-use Rattle.std.proofs.Common.{ap, ◌∙◌, sym, subst, arith}
+use Rattle.std.proofs.Common.{◌≡◌, ◌≢◌, ℕ, zero, suc, ◌+◌, ◌*◌, ◌<◌, ◌≤◌, ◌%◌, Bool, true, false, cond, List, [], ◌∷◌, ◌++◌, length, slice_get, slice_set, Option, Some, None, refl, ap, ◌∙◌, sym, subst, arith}
 use Rattle.std.proofs.lemmas.Bool.{or_right}
 use Rattle.std.proofs.lemmas.List.{append-nil}
 use Rattle.std.proofs.lemmas.List.Folds.{list_any-append}
-use Rattle.rx_base.specs.declared.ids.PlaceId.{PlaceId}
-use Rattle.rx_base.specs.declared.ids.TaskId.{TaskId}
+use Rattle.rx_rules.proofs.Common.{PlaceId, TaskId, Fault, Block, work, Empty, items, granted, child, Tree, AllowedAct, Birth, birth_of, moves_from, travels, started_by, brought, Given, Event, in_all, plan_of, IsDue, rest_of, Player, Game, Turn, start_game, enabled, tree_in, acted, child_of, NoRoot}
 use Rattle.rx_rules.specs.declared.tasks.Where.{Where}
 use Rattle.rx_rules.specs.declared.tasks.Where.TheVariants.{At, Travel}
 use Rattle.rx_rules.specs.declared.tasks.Task.{Task}
-use Rattle.rx_base.specs.declared.values.Fault.{Fault}
 use Rattle.rx_rules.specs.declared.entries.Act.{Act}
 use Rattle.rx_rules.specs.declared.entries.Act.TheVariants.{Open, At as Calls, Spawn, Arrive, Wait, Release, End, Print, Census}
 use Rattle.rx_rules.specs.declared.entries.Entry.{Entry}
 use Rattle.rx_rules.specs.declared.entries.Entry.TheVariants.{Step, Root, Death, Join}
-use Rattle.rx_rules.specs.Code.{Block, work}
-use Rattle.rx_rules.specs.Terms.{Empty, items, granted, child}
-use Rattle.rx_rules.specs.Tree.{Tree}
-use Rattle.rx_rules.specs.Entries.{AllowedAct}
-use Rattle.rx_rules.specs.Plays.{Birth, birth_of, moves_from, travels, started_by, brought}
-use Rattle.rx_rules.specs.Run.{Given, Event, in_all, plan_of, IsDue, rest_of}
 use Rattle.rx_rules.specs.Picked as picked
-use Rattle.rx_rules.specs.Picked.{Player, Game, Turn, Turns, start_game, enabled, tree_in, acted, child_of}
-use Rattle.rx_rules.specs.Run.{NoRoot}
+use Rattle.rx_rules.specs.Picked.{Turns}
 use Rattle.rx_rules.proofs.Numbers.{next-tree}
 use Rattle.rx_runs.specs.Costs.{cost}
 use Rattle.rx_runs.specs.Ties.{Moves, is_end, has_end, RowSo}

@@ -1,17 +1,11 @@
 -- Games that turns have made, whatever the picks.
-use Rattle.std.specs.Prelude.{◌≡◌, ℕ, suc, ◌+◌, ◌*◌, ◌≤◌, List, [], ◌∷◌, ◌++◌, length, refl}
-use Rattle.std.proofs.Common.{◌∙◌, sym, arith}
+use Rattle.std.proofs.Common.{◌≡◌, ℕ, suc, ◌+◌, ◌*◌, ◌≤◌, List, [], ◌∷◌, ◌++◌, length, refl, ◌∙◌, sym, arith}
 use Rattle.std.proofs.lemmas.List.Sums.{sum_by-cons}
 use Rattle.rx_rules.specs.declared.entries.Act.TheVariants.{Open, At as Calls, Spawn, Arrive, Wait, Release, End, Print, Census}
 use Rattle.rx_rules.specs.declared.entries.Entry.{Entry}
 use Rattle.rx_rules.specs.declared.entries.Entry.TheVariants.{Step, Root, Death, Join}
-use Rattle.rx_rules.specs.Code.{Block, work}
-use Rattle.rx_rules.specs.Terms.{Empty, items}
-use Rattle.rx_rules.specs.Tree.{Tree}
-use Rattle.rx_rules.specs.Entries.{made}
-use Rattle.rx_rules.specs.Fold.{births, births_of, fold_from, opening}
-use Rattle.rx_rules.specs.Run.{Given, Proper, plan_of, NoRoot}
-use Rattle.rx_rules.specs.Picked.{Game, Comes, opens, turns, start_game, tree_in}
+use Rattle.rx_rules.proofs.Common.{Block, work, Empty, items, Tree, made, births, births_of, fold_from, opening, Given, Proper, plan_of, NoRoot, Game, Comes, turns, start_game, tree_in}
+use Rattle.rx_rules.specs.Picked.{opens}
 use Rattle.rx_rules.proofs.Numbers.{scope-after_end, next-tree}
 use Rattle.rx_runs.specs.Costs.{cost}
 use Rattle.rx_runs.specs.Games.{GameOk, PlayerSo}

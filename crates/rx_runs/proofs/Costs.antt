@@ -1,18 +1,10 @@
 -- A term spends what it makes.
-use Rattle.rx_rules.specs.Terms.{Vars}
-use Rattle.std.specs.Prelude.{◌≡◌, ℕ, suc, ℤ, ◌+◌, ◌-◌, ◌*◌, ◌≤◌, ◌<◌, nat_le, ◌==◌, Bool, true, false, cond, List, [], ◌∷◌, Option, Some, None, Result, Ok, Err, refl}
-use Rattle.std.proofs.Common.{ap, ◌∙◌, sym, subst, arith, max}
+use Rattle.rx_rules.proofs.Common.{Vars, Fault, GlobalRef, Number, WrongPlace, Thrown, Block, Nothing, Then, Stmt, work, work_of, bound, Term, Empty, Raise, Run, Turns, Trying, Body, Held, Does, Local, Makes, Gets, Puts, Forgets, Opens, Calls, Spawns, Waits, Releases, Prints, Counts, Done, granted, child, does, items, items_from, at, eval, with_number, with_place, target_of, on_ref, ref_in, is_zero, stmt_does, trying_does, body_does, catches, or_raise, raise, value_of, within, Answer, Gives, Fine, Fails, answered}
+use Rattle.std.proofs.Common.{◌≡◌, ℕ, suc, ℤ, ◌+◌, ◌-◌, ◌*◌, ◌≤◌, ◌<◌, nat_le, ◌==◌, Bool, true, false, cond, List, [], ◌∷◌, Option, Some, None, Result, Ok, Err, refl, ap, ◌∙◌, sym, subst, arith, max}
 use Rattle.std.proofs.Math.Nat.{mul-suc, suc-mul}
 use Rattle.std.proofs.lemmas.Bool.{leb-false}
-use Rattle.rx_base.specs.declared.values.Fault.{Fault}
-use Rattle.rx_base.specs.declared.ids.GlobalRef.{GlobalRef}
-use Rattle.rx_base.specs.declared.values.Value.TheVariants.{Num as Number}
-use Rattle.rx_base.specs.declared.values.Fault.TheVariants.{WrongPlace, Thrown}
 use Rattle.rx_base.proofs.Numbers.{add-one}
 use Rattle.rx_rules.specs.Code as code
-use Rattle.rx_rules.specs.Code.{Block, Nothing, Then, Stmt, work, work_of}
-use Rattle.rx_rules.specs.Terms.{bound, Term, Empty, Raise, Run, Turns, Trying, Body, Held, Does, Local, Makes, Gets, Puts, Forgets, Opens, Calls, Spawns, Waits, Releases, Prints, Counts, Done, granted, child, Vars, does, items, items_from, at, eval, with_number, with_place, target_of, on_ref, ref_in, is_zero, stmt_does, trying_does, body_does, catches, or_raise, raise, value_of, within}
-use Rattle.rx_rules.specs.Terms.{Answer, Gives, Fine, Fails, answered}
 use Rattle.rx_runs.specs.Costs.{cost, Spends}
 
 pub cost_items : (b : Block) (x : List ℕ) (i : ℕ) (rest : Term) → cost (items_from b x i rest) ≡ 4 * work b + cost rest

@@ -1,24 +1,16 @@
 -- A task leaves the tree by its end, or struck at a release.
-use Rattle.std.specs.Prelude.{◌≡◌, ◌≢◌, ℕ, suc, ◌+◌, ◌<◌, Bool, true, false, cond, not, ◌||◌, ◌&&◌, ◌==◌, List, [], ◌∷◌, filter, map, Some, is_some, is_none, All, ◌⊎◌, refl}
+use Rattle.std.proofs.Common.{◌≡◌, ◌≢◌, ℕ, suc, ◌+◌, ◌<◌, Bool, true, false, cond, not, ◌||◌, ◌&&◌, ◌==◌, List, [], ◌∷◌, filter, map, Some, is_some, is_none, All, ◌⊎◌, refl, ap, ◌∙◌, sym, subst, arith, ⊎_elim, inl, inr}
 use Rattle.std.specs.List.{list_any}
-use Rattle.std.proofs.Common.{ap, ◌∙◌, sym, subst, arith, ⊎_elim, inl, inr}
 use Rattle.std.proofs.lemmas.Bool.{eqb-true, eq-eqb, ne_eqb, true≢false, or_right, not-true}
 use Rattle.std.proofs.lemmas.List.Folds.{list_any-append}
-use Rattle.rx_base.specs.declared.ids.TaskId.{TaskId}
-use Rattle.rx_base.specs.declared.ids.ScopeId.{ScopeId}
-use Rattle.rx_base.specs.declared.values.Fault.{Fault}
+use Rattle.rx_rules.proofs.Common.{TaskId, ScopeId, Fault, Tree, is_task, task_of, is_under, quiet, the_root, change_first, waiting, resumed, without, hit, born, made, made_act, after_end, Allowed, AllowedAct, births, AllAllowed, opening, fold_from, tree_of, Reached, IsOlder, opens, EndsWithRoot, has_ended}
 use Rattle.rx_rules.specs.declared.tasks.Where.TheVariants.{At}
 use Rattle.rx_rules.specs.declared.tasks.Task.{Task}
 use Rattle.rx_rules.specs.declared.entries.Act.{Act}
 use Rattle.rx_rules.specs.declared.entries.Act.TheVariants.{Open, At as Calls, Spawn, Arrive, Wait, Release, End, Print, Census}
 use Rattle.rx_rules.specs.declared.entries.Entry.{Entry}
 use Rattle.rx_rules.specs.declared.entries.Entry.TheVariants.{Step, Root, Death, Join}
-use Rattle.rx_rules.specs.Tree.{Tree, is_task, task_of, is_under, quiet, the_root}
-use Rattle.rx_rules.specs.Entries.{change_first, waiting, resumed, without, hit, born, made, made_act, after_end, Allowed, AllowedAct}
-use Rattle.rx_rules.specs.Fold.{births, AllAllowed, opening, fold_from, tree_of}
-use Rattle.rx_rules.specs.Reached.{Reached, IsOlder, opens}
-use Rattle.rx_rules.specs.Run.{EndsWithRoot}
-use Rattle.rx_rules.specs.Laws.{ends_task, has_ended}
+use Rattle.rx_rules.specs.Laws.{ends_task}
 use Rattle.rx_rules.proofs.Numbers.{next-tree}
 use Rattle.rx_sound.specs.Sound.{Each, TaskFits, Sound}
 use Rattle.rx_sound.proofs.Changes.{each_more}

@@ -1,26 +1,14 @@
 -- No list of entries that terms make is longer than the script's work and the places pay for.
-use Rattle.std.specs.Prelude.{◌≡◌, ℕ, suc, ◌+◌, ◌*◌, ◌≤◌, Bool, true, false, cond, not, ◌||◌, ◌==◌, List, [], ◌∷◌, ◌++◌, length, filter, slice_get, Option, Some, None, All, refl}
+use Rattle.std.proofs.Common.{◌≡◌, ℕ, suc, ◌+◌, ◌*◌, ◌≤◌, Bool, true, false, cond, not, ◌||◌, ◌==◌, List, [], ◌∷◌, ◌++◌, length, filter, slice_get, Option, Some, None, All, refl, ap, ◌∙◌, sym, subst, arith}
 use Rattle.std.specs.List.{find, list_any}
-use Rattle.std.proofs.Common.{ap, ◌∙◌, sym, subst, arith}
 use Rattle.std.proofs.lemmas.Bool.{eqb-true, ne_eqb, true≢false, or_from, or_right}
-use Rattle.rx_base.specs.declared.ids.PlaceId.{PlaceId}
-use Rattle.rx_base.specs.declared.ids.TaskId.{TaskId}
-use Rattle.rx_base.specs.declared.ids.ScopeId.{ScopeId}
-use Rattle.rx_base.specs.declared.values.Fault.{Fault}
+use Rattle.rx_rules.proofs.Common.{PlaceId, TaskId, ScopeId, Fault, work, Term, Empty, Vars, items, answered, Does, does, granted, child, Tree, is_scope, task_of, on_chain, the_root, without, after_end, made, made_act, Allowed, AllowedAct, births, births_of, AllAllowed, opening, Reached, IsOlder, opens, Event, plan_of, PlanKept, rest_of, Starts, Birth, brought, started_by, birth_in, birth_from, birth_of, travels, moves_from}
 use Rattle.rx_rules.specs.declared.tasks.Task.{Task}
 use Rattle.rx_rules.specs.declared.tasks.Scope.{Scope}
 use Rattle.rx_rules.specs.declared.entries.Act.{Act}
 use Rattle.rx_rules.specs.declared.entries.Act.TheVariants.{Open, At as Calls, Spawn, Arrive, Wait, Release, End, Print, Census}
 use Rattle.rx_rules.specs.declared.entries.Entry.{Entry}
 use Rattle.rx_rules.specs.declared.entries.Entry.TheVariants.{Step, Root, Death, Join}
-use Rattle.rx_rules.specs.Code.{work}
-use Rattle.rx_rules.specs.Terms.{Term, Empty, Vars, items, answered, Does, does, granted, child}
-use Rattle.rx_rules.specs.Tree.{Tree, is_scope, task_of, on_chain, the_root}
-use Rattle.rx_rules.specs.Entries.{without, after_end, made, made_act, Allowed, AllowedAct}
-use Rattle.rx_rules.specs.Fold.{births, births_of, AllAllowed, opening}
-use Rattle.rx_rules.specs.Reached.{Reached, IsOlder, opens}
-use Rattle.rx_rules.specs.Run.{Event, plan_of, PlanKept, rest_of}
-use Rattle.rx_rules.specs.Plays.{Starts, Birth, brought, started_by, birth_in, birth_from, birth_of, travels, moves_from}
 use Rattle.rx_rules.proofs.Numbers.{next-made}
 use Rattle.rx_sound.specs.Chains.{meets}
 use Rattle.rx_sound.specs.Sound.{Sound}

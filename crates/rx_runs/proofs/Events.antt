@@ -1,25 +1,17 @@
 -- How many events the journals of a game that turns have made can have.
-use Rattle.std.specs.Prelude.{◌≡◌, ℕ, zero, suc, ◌+◌, ◌*◌, ◌≤◌, Bool, true, false, ◌||◌, List, [], ◌∷◌, ◌++◌, length, replicate, Option, Some, None, slice_get, slice_set, refl}
+use Rattle.std.proofs.Common.{◌≡◌, ℕ, zero, suc, ◌+◌, ◌*◌, ◌≤◌, Bool, true, false, ◌||◌, List, [], ◌∷◌, ◌++◌, length, replicate, Option, Some, None, slice_get, slice_set, refl, ap, ◌∙◌, sym, subst, arith}
 use Rattle.std.specs.List.{cons_option}
-use Rattle.std.proofs.Common.{ap, ◌∙◌, sym, subst, arith}
 use Rattle.std.proofs.lemmas.Bool.{or_right, eq-eqb}
 use Rattle.std.proofs.lemmas.List.{length-append}
 use Rattle.std.proofs.lemmas.List.Folds.{list_any-append}
-use Rattle.rx_base.specs.declared.ids.PlaceId.{PlaceId}
-use Rattle.rx_base.specs.declared.ids.TaskId.{TaskId}
-use Rattle.rx_base.specs.declared.values.Fault.{Fault}
+use Rattle.rx_rules.proofs.Common.{PlaceId, TaskId, Fault, Block, work, State, Empty, items, answered, Does, does, granted, child, journal_at, moves_from, move_of, brought, started_by, Given, in_all, Proper, Player, Game, Goes, stays, local, stores, Turn, planned, arrives, moves, root, Comes, turns, acted, child_of, closed_by, start_game, tree_in}
 use Rattle.rx_base.proofs.Bools.{or-first}
 use Rattle.rx_rules.specs.declared.entries.Act.TheVariants.{Arrive, End}
 use Rattle.rx_rules.specs.declared.entries.Entry.{Entry}
 use Rattle.rx_rules.specs.declared.entries.Entry.TheVariants.{Step, Root, Death, Join}
 use Rattle.rx_rules.specs.declared.events.PlaceEvent.{PlaceEvent}
 use Rattle.rx_rules.specs.declared.events.PlaceEvent.TheVariants.{Done as Did, Close}
-use Rattle.rx_rules.specs.Code.{Block, work}
-use Rattle.rx_rules.specs.Store.{State}
-use Rattle.rx_rules.specs.Terms.{Empty, items, answered, Does, does, granted, child}
-use Rattle.rx_rules.specs.Plays.{journal_at, moves_from, move_of, brought, started_by}
-use Rattle.rx_rules.specs.Run.{Given, in_all, Proper}
-use Rattle.rx_rules.specs.Picked.{Player, Game, Goes, stays, local, stores, Turn, due as planned, arrives, moves, ends, root, Comes, opens, turns, acted, child_of, closed_by, start_game, tree_in}
+use Rattle.rx_rules.specs.Picked.{ends, opens}
 use Rattle.rx_runs.specs.Steps.{steps, Sinks}
 use Rattle.rx_runs.specs.Ties.{Moves, is_end, has_end}
 use Rattle.rx_runs.specs.Games.{GameOk}

@@ -1,13 +1,9 @@
 -- Each turn keeps that terms fit to the tree.
-use Rattle.std.specs.Prelude.{◌≡◌, ◌≢◌, ℕ, zero, suc, ◌%◌, ◌<◌, ◌≤◌, Bool, true, false, cond, not, ◌==◌, List, [], ◌∷◌, ◌++◌, length, filter, map, slice_get, slice_set, Option, Some, None, refl}
+use Rattle.std.proofs.Common.{◌≡◌, ◌≢◌, ℕ, zero, suc, ◌%◌, ◌<◌, ◌≤◌, Bool, true, false, cond, not, ◌==◌, List, [], ◌∷◌, ◌++◌, length, filter, map, slice_get, slice_set, Option, Some, None, refl, ap, ◌∙◌, sym, subst, arith, ⊎_elim, length-set}
 use Rattle.std.specs.List.{find}
-use Rattle.std.proofs.Common.{ap, ◌∙◌, sym, subst, arith, ⊎_elim, length-set}
 use Rattle.std.proofs.lemmas.Bool.{eq-eqb, eqb-true, true≢false, cases_lt}
 use Rattle.std.proofs.lemmas.Option.{slice_get_within}
-use Rattle.rx_base.specs.declared.ids.PlaceId.{PlaceId}
-use Rattle.rx_base.specs.declared.ids.TaskId.{TaskId}
-use Rattle.rx_base.specs.declared.ids.ScopeId.{ScopeId}
-use Rattle.rx_base.specs.declared.values.Fault.{Fault}
+use Rattle.rx_rules.proofs.Common.{PlaceId, TaskId, ScopeId, Fault, Block, Term, Empty, Raise, Run, Turns, Trying, Body, Held, no_vars, Answer, items, Does, Local, Makes, Gets, Puts, Forgets, Opens, Calls as Asks, Spawns, Waits, Releases, Prints, Counts, Done, does, granted, child, Tree, is_task, task_of, is_scope, the_root, waiting, resumed, without, born, hit, strike, made_act, made, after_end, AllowedAct, Tells, raised_by, brought, started_by, State, Reached, Given, in_all, NoRoot, Player, Game, Goes, stays, local, stores, Turn, acted, child_of, enabled, tree_in, start_game}
 use Rattle.rx_base.proofs.Elements.{get-set}
 use Rattle.rx_base.proofs.SameIds.{task-is}
 use Rattle.rx_rules.specs.declared.tasks.Blow.{Blow}
@@ -22,16 +18,8 @@ use Rattle.rx_rules.specs.declared.entries.Entry.{Entry}
 use Rattle.rx_rules.specs.declared.entries.Entry.TheVariants.{Step, Root, Death, Join}
 use Rattle.rx_rules.specs.declared.events.Cell.{Cell}
 use Rattle.rx_rules.specs.declared.events.PlaceEvent.{PlaceEvent}
-use Rattle.rx_rules.specs.Code.{Block}
-use Rattle.rx_rules.specs.Terms.{Term, Empty, Raise, Run, Turns, Trying, Body, Held, no_vars, Answer, items, Does, Local, Makes, Gets, Puts, Forgets, Opens, Calls as Asks, Spawns, Waits, Releases, Prints, Counts, Done, does, granted, child}
-use Rattle.rx_rules.specs.Tree.{Tree, is_task, task_of, is_scope, the_root}
-use Rattle.rx_rules.specs.Entries.{waiting, resumed, without, born, hit, strike, made_act, made, after_end, AllowedAct}
-use Rattle.rx_rules.specs.Plays.{Fits, Tells, raised_by, brought, started_by}
-use Rattle.rx_rules.specs.Store.{State}
-use Rattle.rx_rules.specs.Reached.{Reached}
-use Rattle.rx_rules.specs.Run.{Given, in_all, NoRoot}
+use Rattle.rx_rules.specs.Plays.{Fits}
 use Rattle.rx_rules.specs.Picked as picked
-use Rattle.rx_rules.specs.Picked.{Player, Game, Goes, stays, local, stores, Turn, acted, child_of, enabled, tree_in, start_game}
 use Rattle.rx_rules.proofs.Append.{tree-push}
 use Rattle.rx_rules.proofs.Numbers.{next-tree}
 use Rattle.rx_sound.specs.Sound.{Inside, Sound}

@@ -1,12 +1,9 @@
 -- A game that has not ended has a next turn, and so each list of picks has its run.
-use Rattle.std.specs.Prelude.{◌≡◌, ℕ, zero, suc, ◌+◌, ◌%◌, ◌^◌, ◌<◌, ◌≤◌, Bool, true, false, not, cond, ◌||◌, ◌&&◌, List, [], ◌∷◌, ◌++◌, length, filter, map, slice_get, Some, None, refl, ◌⊎◌}
+use Rattle.std.proofs.Common.{◌≡◌, ℕ, zero, suc, ◌+◌, ◌%◌, ◌^◌, ◌<◌, ◌≤◌, Bool, true, false, not, cond, ◌||◌, ◌&&◌, List, [], ◌∷◌, ◌++◌, length, filter, map, slice_get, Some, None, refl, ◌⊎◌, ap, ◌∙◌, sym, subst, arith, ⊎_elim, inl, inr}
 use Rattle.std.specs.List.{find, list_any}
-use Rattle.std.proofs.Common.{ap, ◌∙◌, sym, subst, arith, ⊎_elim, inl, inr}
 use Rattle.std.proofs.Math.Nat.{mod-lt}
 use Rattle.std.proofs.lemmas.Bool.{cases_lt}
-use Rattle.rx_base.specs.declared.ids.PlaceId.{PlaceId}
-use Rattle.rx_base.specs.declared.ids.ScopeId.{ScopeId}
-use Rattle.rx_base.specs.declared.place_set.PlaceSet.{PlaceSet}
+use Rattle.rx_rules.proofs.Common.{PlaceId, ScopeId, PlaceSet, Block, Does, Local, Makes, Gets, Puts, Forgets, Opens, Calls as Asks, Spawns, Waits, Releases, Prints, Counts, Done, does, Tree, opened_by, inner, governs, quiet, is_under, the_root, ActAsks, AllowedAct, IsLive, MayFree, was_lost_at, masked_under, thrown_of, journal_at, State, Given, in_all, Event, NoRoot, EndsWithRoot, NoneDue, IsDue, Player, Game, Turn, Comes, turns, IsPicked, none, more, used_after, enabled, tree_in, start_game}
 use Rattle.rx_base.proofs.Elements.{get-within}
 use Rattle.rx_rules.specs.declared.tasks.Where.{Where}
 use Rattle.rx_rules.specs.declared.tasks.Where.TheVariants.{At, Travel}
@@ -17,15 +14,9 @@ use Rattle.rx_rules.specs.declared.entries.Act.{Act}
 use Rattle.rx_rules.specs.declared.entries.Act.TheVariants.{Open, At as Calls, Spawn, Arrive, Wait, Release, End, Print, Census}
 use Rattle.rx_rules.specs.declared.entries.Entry.{Entry}
 use Rattle.rx_rules.specs.declared.entries.Entry.TheVariants.{Step, Root, Death, Join}
-use Rattle.rx_rules.specs.Code.{Block}
-use Rattle.rx_rules.specs.Terms.{Does, Local, Makes, Gets, Puts, Forgets, Opens, Calls as Asks, Spawns, Waits, Releases, Prints, Counts, Done, does}
-use Rattle.rx_rules.specs.Tree.{Tree, opened_by, inner, governs, quiet, is_under, the_root}
-use Rattle.rx_rules.specs.Entries.{ActAsks, AllowedAct, IsLive, MayFree, was_lost_at, masked_under, thrown_of}
-use Rattle.rx_rules.specs.Plays.{Fits, journal_at}
-use Rattle.rx_rules.specs.Store.{State}
-use Rattle.rx_rules.specs.Run.{Given, in_all, Event, NoRoot, EndsWithRoot, NoneDue, IsDue}
+use Rattle.rx_rules.specs.Plays.{Fits}
 use Rattle.rx_rules.specs.Picked as picked
-use Rattle.rx_rules.specs.Picked.{Player, Game, Turn, Turns, Comes, opens, turns, IsPicked, none, more, used_after, enabled, tree_in, start_game}
+use Rattle.rx_rules.specs.Picked.{Turns, opens}
 use Rattle.rx_rules.proofs.Append.{no_root-push, root-push}
 use Rattle.rx_sound.proofs.Enabling.{none_left, inner_is}
 use Rattle.rx_sound.proofs.Rooting.{root_stands}

@@ -1,20 +1,15 @@
 -- Journals in a longer history.
-use Rattle.std.specs.Prelude.{◌≡◌, ◌≢◌, ℕ, suc, ◌+◌, ◌<◌, ◌≤◌, List, [], ◌∷◌, ◌++◌, length, Option, Some, None, refl}
+use Rattle.std.proofs.Common.{◌≡◌, ◌≢◌, ℕ, suc, ◌+◌, ◌<◌, ◌≤◌, List, [], ◌∷◌, ◌++◌, length, Option, Some, None, refl, ap, ◌∙◌, sym, subst, arith}
 use Rattle.std.specs.List.{filter_map}
-use Rattle.std.proofs.Common.{ap, ◌∙◌, sym, subst, arith}
 use Rattle.std.proofs.lemmas.Bool.{eq-eqb, ne_eqb}
 use Rattle.std.proofs.lemmas.List.{length-append}
 use Rattle.std.proofs.lemmas.List.Elements.{filter_map-append}
 use Rattle.std.proofs.lemmas.List.Sums.{sum_by-append}
-use Rattle.rx_base.specs.declared.ids.PlaceId.{PlaceId}
+use Rattle.rx_rules.proofs.Common.{PlaceId, births, births_of, Birth, birth_of, State, IsStoreRun, opening_state, Given, AtHome, NotFalling, ClosesAt, stamp_of, close_in, death_number}
 use Rattle.rx_rules.specs.declared.entries.Entry.{Entry}
 use Rattle.rx_rules.specs.declared.entries.Entry.TheVariants.{Death}
 use Rattle.rx_rules.specs.declared.events.PlaceEvent.{PlaceEvent}
 use Rattle.rx_rules.specs.declared.events.PlaceEvent.TheVariants.{Done as Did, Close}
-use Rattle.rx_rules.specs.Fold.{births, births_of}
-use Rattle.rx_rules.specs.Plays.{Birth, birth_of}
-use Rattle.rx_rules.specs.Store.{State, IsStoreRun, opening_state}
-use Rattle.rx_rules.specs.Run.{Given, AtHome, NotFalling, ClosesAt, stamp_of, close_in, death_number}
 use Rattle.rx_runs.specs.Games.{Leads, rests, steps, NotAbove, JournalSo}
 use Rattle.rx_rules.proofs.Deaths.{death-push, first_of}
 use Rattle.rx_runs.proofs.Pushes.{birth-push}

@@ -1,17 +1,12 @@
 -- Each turn keeps what holds of games.
-use Rattle.rx_rules.specs.Terms.{Vars, no_vars}
-use Rattle.std.specs.Prelude.{◌≡◌, ◌≢◌, ℕ, zero, suc, ◌+◌, ◌-◌, ◌%◌, ◌<◌, ◌≤◌, Bool, true, false, not, ◌&&◌, ◌||◌, List, [], ◌∷◌, ◌++◌, length, filter, reverse, get_or, slice_get, slice_set, Option, Some, None, is_none, refl}
+use Rattle.rx_rules.proofs.Common.{Vars, no_vars, PlaceId, PlaceSet, TaskId, Fault, Block, Term, Empty, items, Does, Local, Makes, Gets, Puts, Forgets, Opens, Calls as Asks, Spawns, Waits, Releases, Prints, Counts, Done, does, child, birth_in, Tree, quiet, inner, Allowed, AllowedAct, made_act, births, births_of, opening, Birth, birth_of, moves_from, journal_at, cell_of, started_by, StartsSo, State, Given, in_all, Event, plan_of, AtHome, NoneDue, IsDue, rest_of, death_number, Player, Game, Turn, enabled, is_enabled, tree_in, with_entry, closed_by, child_of, NoRoot}
+use Rattle.std.proofs.Common.{◌≡◌, ◌≢◌, ℕ, zero, suc, ◌+◌, ◌-◌, ◌%◌, ◌<◌, ◌≤◌, Bool, true, false, not, ◌&&◌, ◌||◌, List, [], ◌∷◌, ◌++◌, length, filter, reverse, get_or, slice_get, slice_set, Option, Some, None, is_none, refl, ap, ◌∙◌, sym, subst, arith, length-set}
 use Rattle.std.specs.List.{filter_map}
-use Rattle.std.proofs.Common.{ap, ◌∙◌, sym, subst, arith, length-set}
 use Rattle.std.proofs.lemmas.Bool.{eq-eqb, and_parts, or_right}
 use Rattle.std.proofs.lemmas.List.{append-nil, length-reverse, get_or-reverse, length-append}
 use Rattle.std.proofs.lemmas.List.Folds.{list_any-append}
 use Rattle.std.proofs.lemmas.List.Sums.{sum_by-append}
 use Rattle.std.proofs.lemmas.Option.{slice_get-get_or, get_or_from_slice_get, slice_get_within}
-use Rattle.rx_base.specs.declared.ids.PlaceId.{PlaceId}
-use Rattle.rx_base.specs.declared.place_set.PlaceSet.{PlaceSet}
-use Rattle.rx_base.specs.declared.ids.TaskId.{TaskId}
-use Rattle.rx_base.specs.declared.values.Fault.{Fault}
 use Rattle.rx_rules.specs.declared.tasks.Where.{Where}
 use Rattle.rx_rules.specs.declared.tasks.Where.TheVariants.{At, Travel}
 use Rattle.rx_base.proofs.Options.{none-from}
@@ -23,20 +18,10 @@ use Rattle.rx_rules.specs.declared.entries.Entry.TheVariants.{Step, Root, Death,
 use Rattle.rx_rules.specs.declared.events.PlaceEvent.{PlaceEvent}
 use Rattle.rx_rules.specs.declared.events.PlaceEvent.TheVariants.{Close}
 use Rattle.rx_rules.specs.declared.tasks.Task.{Task}
-use Rattle.rx_rules.specs.Code.{Block}
-use Rattle.rx_rules.specs.Terms.{Term, Empty, items, Does, Local, Makes, Gets, Puts, Forgets, Opens, Calls as Asks, Spawns, Waits, Releases, Prints, Counts, Done, does, child}
-use Rattle.rx_rules.specs.Plays.{Fits, birth_in}
-use Rattle.rx_rules.specs.Tree.{Tree, quiet, inner}
-use Rattle.rx_rules.specs.Entries.{Allowed, AllowedAct, made_act}
-use Rattle.rx_rules.specs.Fold.{births, births_of, opening}
-use Rattle.rx_rules.specs.Plays.{Birth, birth_of, moves_from, journal_at, cell_of, started_by, StartsSo}
-use Rattle.rx_rules.specs.Store.{State}
-use Rattle.rx_rules.specs.Run.{Given, in_all, Event, plan_of, AtHome, NoneDue, IsDue, rest_of, death_number}
+use Rattle.rx_rules.specs.Plays.{Fits}
 use Rattle.rx_rules.specs.Picked as picked
-use Rattle.rx_rules.specs.Picked.{Player, Game, Turn, enabled, is_enabled, tree_in, with_entry, closed_by, child_of}
 use Rattle.rx_runs.proofs.Append.{allowed-push}
 use Rattle.rx_runs.specs.Segments.{plan_left}
-use Rattle.rx_rules.specs.Run.{NoRoot}
 use Rattle.rx_runs.specs.Ties.{Moves, is_end, has_end, RowSo, Ties, MayBe, MayCome}
 use Rattle.rx_rules.proofs.Inverting.{asks_no_end}
 use Rattle.rx_rules.proofs.Append.{tree-push, act-places}

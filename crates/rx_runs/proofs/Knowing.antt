@@ -1,25 +1,12 @@
 -- No task knows of more places than there are.
-use Rattle.std.specs.Prelude.{◌≡◌, ℕ, zero, suc, ℤ, ◌≤◌, ◌==◌, Bool, true, false, cond, List, [], ◌∷◌, ◌++◌, length, Option, Some, None, Result, Ok, Err, slice_get, slice_set, refl}
-use Rattle.std.proofs.Common.{ap, ◌∙◌, sym, subst, arith}
-use Rattle.rx_base.specs.declared.ids.PlaceId.{PlaceId}
-use Rattle.rx_base.specs.declared.ids.TaskId.{TaskId}
-use Rattle.rx_base.specs.declared.values.Fault.{Fault}
-use Rattle.rx_base.specs.declared.values.Fault.TheVariants.{Thrown, WrongPlace}
-use Rattle.rx_base.specs.declared.values.Value.TheVariants.{Num as Number}
+use Rattle.std.proofs.Common.{◌≡◌, ℕ, zero, suc, ℤ, ◌≤◌, ◌==◌, Bool, true, false, cond, List, [], ◌∷◌, ◌++◌, length, Option, Some, None, Result, Ok, Err, slice_get, slice_set, refl, ap, ◌∙◌, sym, subst, arith}
+use Rattle.rx_rules.proofs.Common.{PlaceId, TaskId, Fault, Thrown, WrongPlace, Number, Block, Stmt, SetTo, New, Get, Put, Forget, Census, Print, Throw, Async, AtAsync, At, Finish, If, Repeat, Try, Vars, Term, Empty, Run, Raise, Turns, Trying, Body, Held, items, at, Answer, Gives, Fine, Fails, vars_after, Does, Local, Makes, Gets, Puts, Forgets, Opens, Calls, Spawns, Waits, Releases, Prints, Counts, Done, raise, bound, value_of, ref_in, eval, target_of, is_zero, with_number, with_place, stmt_does, within, trying_does, body_does, does, child, Tree, AllowedAct, made, made_act, tree_of, started_by, vars_told, journal_at, State, Given, Player, Game, Goes, stays, local, stores, Turn, planned, arrives, moves, root, Comes, turns, tree_in, acted, child_of}
 use Rattle.rx_rules.specs.declared.entries.Act.{Act}
 use Rattle.rx_rules.specs.declared.entries.Act.TheVariants.{Open, At as Asks, Spawn, Arrive, Wait, Release, End, Print as Shows, Census as Told}
 use Rattle.rx_rules.specs.declared.entries.Entry.{Entry}
 use Rattle.rx_rules.specs.declared.entries.Entry.TheVariants.{Step, Root, Death, Join}
 use Rattle.rx_rules.specs.declared.events.PlaceEvent.{PlaceEvent}
-use Rattle.rx_rules.specs.Code.{Block, Stmt, SetTo, New, Get, Put, Forget, Census, Print, Throw, Async, AtAsync, At, Finish, If, Repeat, Try}
-use Rattle.rx_rules.specs.Terms.{Vars, Term, Empty, Run, Raise, Turns, Trying, Body, Held, items, at, Answer, Gives, Fine, Fails, vars_after, Does, Local, Makes, Gets, Puts, Forgets, Opens, Calls, Spawns, Waits, Releases, Prints, Counts, Done, raise, bound, value_of, ref_in, eval, target_of, is_zero, with_number, with_place, stmt_does, within, trying_does, body_does, does, child}
-use Rattle.rx_rules.specs.Tree.{Tree}
-use Rattle.rx_rules.specs.Entries.{AllowedAct, made, made_act}
-use Rattle.rx_rules.specs.Fold.{tree_of}
-use Rattle.rx_rules.specs.Plays.{started_by, vars_told, journal_at}
-use Rattle.rx_rules.specs.Store.{State}
-use Rattle.rx_rules.specs.Run.{Given}
-use Rattle.rx_rules.specs.Picked.{Player, Game, Goes, stays, local, stores, Turn, due as planned, arrives, moves, ends, root, Comes, opens, turns, tree_in, acted, child_of}
+use Rattle.rx_rules.specs.Picked.{ends, opens}
 use Rattle.rx_rules.proofs.Append.{act-places, tree-push}
 use Rattle.rx_runs.specs.Knowing.{ComesKnowing, GoesKnowing, LocalKnowing, TurnKnowing}
 

@@ -1,16 +1,9 @@
 -- How many steps the terms of a game that turns have made have still to make.
-use Rattle.std.specs.Prelude.{◌≡◌, ℕ, zero, suc, ◌+◌, ◌*◌, ◌≤◌, Bool, List, [], ◌∷◌, ◌++◌, Option, Some, None, slice_get, slice_set}
-use Rattle.std.proofs.Common.{subst, arith}
-use Rattle.rx_base.specs.declared.ids.PlaceId.{PlaceId}
-use Rattle.rx_base.specs.declared.ids.TaskId.{TaskId}
+use Rattle.std.proofs.Common.{◌≡◌, ℕ, zero, suc, ◌+◌, ◌*◌, ◌≤◌, Bool, List, [], ◌∷◌, ◌++◌, Option, Some, None, slice_get, slice_set, subst, arith}
+use Rattle.rx_rules.proofs.Common.{PlaceId, TaskId, Block, work, State, Term, Empty, items, Answer, answered, Does, Local, Makes, Gets, Puts, Forgets, Opens, Calls as Asks, Spawns, Waits, Releases, Prints, Counts, Done, does, granted, child, Tells, brought, started_by, Given, Player, Game, Goes, stays, local, stores, Turn, planned, arrives, moves, root, Comes, turns, acted, child_of}
 use Rattle.rx_rules.specs.declared.events.Cell.{Cell}
 use Rattle.rx_rules.specs.declared.events.PlaceEvent.{PlaceEvent}
-use Rattle.rx_rules.specs.Code.{Block, work}
-use Rattle.rx_rules.specs.Store.{State}
-use Rattle.rx_rules.specs.Terms.{Term, Empty, items, Answer, answered, Does, Local, Makes, Gets, Puts, Forgets, Opens, Calls as Asks, Spawns, Waits, Releases, Prints, Counts, Done, does, granted, child}
-use Rattle.rx_rules.specs.Plays.{Tells, brought, started_by}
-use Rattle.rx_rules.specs.Run.{Given}
-use Rattle.rx_rules.specs.Picked.{Player, Game, Goes, stays, local, stores, Turn, due as planned, arrives, moves, ends, root, Comes, opens, turns, acted, child_of}
+use Rattle.rx_rules.specs.Picked.{ends, opens}
 use Rattle.rx_runs.specs.Steps.{steps, Sinks}
 use Rattle.rx_runs.specs.Left.{FewLeft, GoingSinks}
 use Rattle.rx_runs.proofs.Sinking.{sinks, steps_items}

@@ -1,13 +1,10 @@
 -- A term has one next step: what it asks the store, what it asks the ledger, a local step and an end exclude each other.
-use Rattle.std.specs.Prelude.{◌≡◌, List}
-use Rattle.std.proofs.Common.{sym, subst, ◌∙◌}
-use Rattle.rx_base.specs.declared.ids.PlaceId.{PlaceId}
-use Rattle.rx_base.specs.declared.values.Fault.{Fault}
+use Rattle.std.proofs.Common.{◌≡◌, List, sym, subst, ◌∙◌}
+use Rattle.rx_rules.proofs.Common.{PlaceId, Fault, Term, Vars, Answer, Does, Local, Makes as Creates, Gets, Puts, Forgets, Opens, Calls as Asks, Spawns, Waits, Releases, Prints, Counts, Done, Tells}
 use Rattle.rx_rules.specs.declared.entries.Act.{Act}
 use Rattle.rx_rules.specs.declared.events.Cell.{Cell}
 use Rattle.rx_rules.specs.declared.events.Cell.TheVariants.{Make, MakeFull, Get, Put, Forget, GetRefused, PutRefused, ForgetStale}
-use Rattle.rx_rules.specs.Terms.{Term, Vars, Answer, Does, Local, Makes as Creates, Gets, Puts, Forgets, Opens, Calls as Asks, Spawns, Waits, Releases, Prints, Counts, Done}
-use Rattle.rx_rules.specs.Plays.{Fits, Tells}
+use Rattle.rx_rules.specs.Plays.{Fits}
 
 -- one call is told one answer by one event
 pub told_once : (d : Does) (here : PlaceId) (c : Cell) (a b : Answer) → Tells d here c a → Tells d here c b → a ≡ b

@@ -1,15 +1,9 @@
 -- The game before the first turn.
-use Rattle.rx_rules.specs.Terms.{Vars, no_vars}
-use Rattle.std.specs.Prelude.{◌≡◌, ℕ, zero, suc, ◌≤◌, List, [], ◌∷◌, replicate, refl}
+use Rattle.rx_rules.proofs.Common.{Vars, no_vars, Term, Empty, items, journal_at, cell_of, birth_of, opening_state, opening, Given, in_all}
+use Rattle.std.proofs.Common.{◌≡◌, ℕ, zero, suc, ◌≤◌, List, [], ◌∷◌, replicate, refl, ap, sym, subst, arith, inl}
 use Rattle.std.specs.List.{filter_map}
-use Rattle.std.proofs.Common.{ap, sym, subst, arith, inl}
 use Rattle.std.proofs.lemmas.List.{length-replicate}
 use Rattle.rx_rules.specs.declared.events.Cell.{Cell}
-use Rattle.rx_rules.specs.Terms.{Term, Empty, items}
-use Rattle.rx_rules.specs.Plays.{journal_at, cell_of, birth_of}
-use Rattle.rx_rules.specs.Store.{opening_state}
-use Rattle.rx_rules.specs.Fold.{opening}
-use Rattle.rx_rules.specs.Run.{Given, in_all}
 use Rattle.rx_sound.proofs.Histories.{no_dead}
 use Rattle.rx_runs.specs.Ties.{Ties}
 use Rattle.rx_runs.specs.Segments.{stays}

@@ -1,8 +1,7 @@
 -- Pairs of two lists, and journals by their places.
-use Rattle.std.specs.Prelude.{◌≡◌, ◌≢◌, ℕ, zero, suc, ◌+◌, ◌<◌, ◌≤◌, List, [], ◌∷◌, ◌++◌, length, slice_get, slice_set, Some, refl}
-use Rattle.std.proofs.Common.{ap, subst, arith}
+use Rattle.std.proofs.Common.{◌≡◌, ◌≢◌, ℕ, zero, suc, ◌+◌, ◌<◌, ◌≤◌, List, [], ◌∷◌, ◌++◌, length, slice_get, slice_set, Some, refl, ap, subst, arith}
 use Rattle.rx_rules.specs.declared.events.PlaceEvent.{PlaceEvent}
-use Rattle.rx_rules.specs.Plays.{journal_at}
+use Rattle.rx_rules.proofs.Common.{journal_at}
 use Rattle.rx_runs.specs.Games.{Pairs}
 
 pub pairs-map : {A B : Type 0} {P Q : ℕ → A → B → Type 0} (n : ℕ) (xs : List A) (ys : List B) → ((m : ℕ) (a : A) (b : B) → n ≤ m → m < n + length xs → P m a b → Q m a b) → Pairs P n xs ys → Pairs Q n xs ys

@@ -1,17 +1,11 @@
 -- What a turn costs the task that acts.
-use Rattle.std.specs.Prelude.{ℕ, ◌+◌, ◌≤◌, List, [], Option, Some, None}
-use Rattle.std.proofs.Common.{subst, arith}
-use Rattle.rx_base.specs.declared.ids.PlaceId.{PlaceId}
-use Rattle.rx_base.specs.declared.ids.TaskId.{TaskId}
+use Rattle.std.proofs.Common.{ℕ, ◌+◌, ◌≤◌, List, [], Option, Some, None, subst, arith}
+use Rattle.rx_rules.proofs.Common.{PlaceId, TaskId, Term, Does, Local, Makes, Gets, Puts, Forgets, Opens, Calls as Asks, Spawns, Waits, Releases, Prints, Counts, Done, does, granted, child, Answer, answered, Tells, brought, started_by, raised_by, State, Player, Goes, stays, local, stores}
 use Rattle.rx_rules.specs.declared.entries.Act.{Act}
 use Rattle.rx_rules.specs.declared.entries.Act.TheVariants.{Open, At as Calls, Spawn, Arrive, Wait, Release, End, Print, Census}
 use Rattle.rx_rules.specs.declared.events.Cell.{Cell}
 use Rattle.rx_rules.specs.declared.events.PlaceEvent.{PlaceEvent}
-use Rattle.rx_rules.specs.Terms.{Term, Does, Local, Makes, Gets, Puts, Forgets, Opens, Calls as Asks, Spawns, Waits, Releases, Prints, Counts, Done, does, granted, child}
-use Rattle.rx_rules.specs.Terms.{Answer, answered}
-use Rattle.rx_rules.specs.Plays.{Tells, Fits, brought, started_by, raised_by}
-use Rattle.rx_rules.specs.Store.{State}
-use Rattle.rx_rules.specs.Picked.{Player, Goes, stays, local, stores}
+use Rattle.rx_rules.specs.Plays.{Fits}
 use Rattle.rx_runs.specs.Costs.{cost, Spends}
 use Rattle.rx_runs.specs.AnyAnswers.{AsksStore}
 use Rattle.rx_runs.proofs.Costs.{spends}

@@ -1,15 +1,10 @@
 -- What a pick says of the task, and that the tree of a game can be reached.
-use Rattle.std.specs.Prelude.{◌≡◌, ℕ, zero, suc, true, not, ◌&&◌, ◌||◌, List, [], ◌∷◌, filter, slice_get, Some, None, is_none}
+use Rattle.std.proofs.Common.{◌≡◌, ℕ, zero, suc, true, not, ◌&&◌, ◌||◌, List, [], ◌∷◌, filter, slice_get, Some, None, is_none, subst}
 use Rattle.std.specs.List.{find}
-use Rattle.std.proofs.Common.{subst}
 use Rattle.std.proofs.lemmas.Bool.{and_parts}
 use Rattle.rx_base.proofs.Options.{none-from}
 use Rattle.rx_rules.specs.declared.tasks.Task.{Task}
-use Rattle.rx_rules.specs.Code.{Block}
-use Rattle.rx_rules.specs.Tree.{Tree, is_task, task_of, quiet, inner}
-use Rattle.rx_rules.specs.Reached.{Reached}
-use Rattle.rx_rules.specs.Run.{Given}
-use Rattle.rx_rules.specs.Picked.{Game, is_enabled, enabled, tree_in}
+use Rattle.rx_rules.proofs.Common.{Block, Tree, is_task, task_of, quiet, inner, Reached, Given, Game, is_enabled, enabled, tree_in}
 use Rattle.rx_sound.specs.Sound.{Each, Sound}
 use Rattle.rx_sound.proofs.Changes.{each_filter}
 use Rattle.rx_sound.proofs.Reached.{sound}

@@ -1,10 +1,7 @@
 -- Kills of places that are there or join and are not 0, none twice, are fewer than these places.
-use Rattle.std.specs.Prelude.{◌≡◌, ◌≢◌, ℕ, zero, suc, ◌+◌, ◌<◌, ◌≤◌, true, false, cond, not, ◌==◌, List, [], ◌∷◌, filter, length, refl}
-use Rattle.std.proofs.Common.{ap, ◌∙◌, sym, arith}
+use Rattle.std.proofs.Common.{◌≡◌, ◌≢◌, ℕ, zero, suc, ◌+◌, ◌<◌, ◌≤◌, true, false, cond, not, ◌==◌, List, [], ◌∷◌, filter, length, refl, ap, ◌∙◌, sym, arith}
 use Rattle.std.proofs.lemmas.Bool.{eqb-true, eq-eqb, ne_eqb, true≢false}
-use Rattle.rx_base.specs.declared.ids.PlaceId.{PlaceId}
-use Rattle.rx_base.specs.declared.ids.Kill.{Kill}
-use Rattle.rx_rules.specs.Run.{Given, in_all, AreKills, Spares}
+use Rattle.rx_rules.proofs.Common.{PlaceId, Kill, Given, in_all, AreKills, Spares}
 
 -- all places are below n, and of one place at most one
 abbrev Fit : ℕ → List Kill → Type 0

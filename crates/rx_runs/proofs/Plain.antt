@@ -1,14 +1,8 @@
 -- A picked run stays one where its sets of places keep the bits of places alone.
-use Rattle.std.specs.Prelude.{◌≡◌, ℕ, zero, suc, ◌%◌, ◌/◌, ◌^◌, ◌<◌, ◌==◌, Bool, true, false, List, [], ◌∷◌, ◌++◌, length, map, filter, cond, slice_get, slice_set, Some, refl}
-use Rattle.std.proofs.Common.{ap, ◌∙◌, sym, subst, arith}
+use Rattle.std.proofs.Common.{◌≡◌, ℕ, zero, suc, ◌%◌, ◌/◌, ◌^◌, ◌<◌, ◌==◌, Bool, true, false, List, [], ◌∷◌, ◌++◌, length, map, filter, cond, slice_get, slice_set, Some, refl, ap, ◌∙◌, sym, subst, arith}
 use Rattle.std.specs.List.{AllByRecursion}
 use Rattle.std.proofs.lemmas.List.{length-map, map-append}
-use Rattle.rx_base.specs.Sets.{all_places, has_bit, members}
-use Rattle.rx_base.specs.declared.ids.PlaceId.{PlaceId}
-use Rattle.rx_base.specs.declared.ids.ScopeId.{ScopeId}
-use Rattle.rx_base.specs.declared.place_set.PlaceSet.{PlaceSet}
-use Rattle.rx_base.specs.declared.values.Fault.{Fault}
-use Rattle.rx_base.specs.declared.values.Fault.TheVariants.{Dead}
+use Rattle.rx_rules.proofs.Common.{all_places, has_bit, members, PlaceId, ScopeId, PlaceSet, Fault, Dead, Block, Term, Vars, Does, Local, Makes, Gets, Puts, Forgets, Opens, Calls as Asks, Spawns, Waits, Releases, Prints, Counts, Done, does, granted, Tree, the_root, Allowed, MayFree, made, fold_from, opening, brought, vars_told, journal_at, State, Given, NoRoot, EndsWithRoot, NoneDue, IsDue, rest_of, Player, Game, Goes, Turn, IsPicked, none, more, child_of, with_entry, closed_by, enabled, tree_in, start_game}
 use Rattle.rx_rules.specs.declared.tasks.Task.{Task}
 use Rattle.rx_rules.specs.declared.entries.Act.{Act}
 use Rattle.rx_rules.specs.declared.entries.Act.TheVariants.{Open, At as Calls, Spawn, Arrive, Wait, Release, End, Print, Census}
@@ -16,16 +10,9 @@ use Rattle.rx_rules.specs.declared.entries.Entry.{Entry}
 use Rattle.rx_rules.specs.declared.entries.Entry.TheVariants.{Step, Root, Death, Join}
 use Rattle.rx_rules.specs.declared.events.PlaceEvent.{PlaceEvent}
 use Rattle.rx_rules.specs.declared.events.PlaceEvent.TheVariants.{Close}
-use Rattle.rx_rules.specs.Code.{Block}
-use Rattle.rx_rules.specs.Terms.{Term, Vars, Does, Local, Makes, Gets, Puts, Forgets, Opens, Calls as Asks, Spawns, Waits, Releases, Prints, Counts, Done, does, granted}
-use Rattle.rx_rules.specs.Tree.{Tree, the_root}
-use Rattle.rx_rules.specs.Entries.{Allowed, MayFree, made}
-use Rattle.rx_rules.specs.Fold.{fold_from, opening}
-use Rattle.rx_rules.specs.Plays.{Fits, brought, vars_told, journal_at}
-use Rattle.rx_rules.specs.Store.{State}
-use Rattle.rx_rules.specs.Run.{Given, NoRoot, EndsWithRoot, NoneDue, IsDue, rest_of}
+use Rattle.rx_rules.specs.Plays.{Fits}
 use Rattle.rx_rules.specs.Picked as picked
-use Rattle.rx_rules.specs.Picked.{Player, Game, Goes, Turn, Turns, IsPicked, none, more, child_of, with_entry, closed_by, enabled, tree_in, start_game}
+use Rattle.rx_rules.specs.Picked.{Turns}
 use Rattle.rx_runs.proofs.Planned.{IsPlanned, EachPlanned, each_due, rest_planned, events_planned}
 use Rattle.rx_runs.specs.PickedRuns.{ActFits, SetsFit, plain_set, plain_act, plain}
 

@@ -1,14 +1,10 @@
 -- What is planned: what may come of it, and what is left.
-use Rattle.std.specs.Prelude.{◌≡◌, ◌≢◌, ℕ, suc, ◌≤◌, nat_le, true, false, cond, List, [], ◌∷◌, ◌++◌, refl}
-use Rattle.std.proofs.Common.{ap, ◌∙◌, sym, subst, arith}
-use Rattle.rx_base.specs.declared.ids.PlaceId.{PlaceId}
-use Rattle.rx_base.specs.declared.ids.TaskId.{TaskId}
-use Rattle.rx_base.specs.declared.ids.Kill.{Kill}
+use Rattle.std.proofs.Common.{◌≡◌, ◌≢◌, ℕ, suc, ◌≤◌, nat_le, true, false, cond, List, [], ◌∷◌, ◌++◌, refl, ap, ◌∙◌, sym, subst, arith}
+use Rattle.rx_rules.proofs.Common.{PlaceId, TaskId, Kill, Event, put_in, events, IsDue, rest_of, death_number, NoRoot}
 use Rattle.rx_base.proofs.SameIds.{place-is}
 use Rattle.rx_rules.specs.declared.entries.Act.{Act}
 use Rattle.rx_rules.specs.declared.entries.Entry.{Entry}
 use Rattle.rx_rules.specs.declared.entries.Entry.TheVariants.{Step, Root, Death, Join}
-use Rattle.rx_rules.specs.Run.{Event, put_in, events, IsDue, rest_of, death_number, NoRoot}
 use Rattle.rx_runs.specs.Segments.{plan_left}
 use Rattle.rx_runs.specs.Ties.{MayBe, MayCome, SparesIn, places_after}
 use Rattle.rx_runs.proofs.Journals.{death_same, other_death}

@@ -1,15 +1,11 @@
 -- The plan of a proper setup: what it starts with, how long it is, and that all of it may come.
-use Rattle.std.specs.Prelude.{◌≡◌, ◌≢◌, ℕ, zero, suc, ◌+◌, ◌-◌, ◌*◌, ◌<◌, ◌≤◌, true, false, cond, nat_le, List, [], ◌∷◌, length, slice_get, Some, refl}
-use Rattle.std.proofs.Common.{ap, ◌∙◌, sym, subst, arith}
+use Rattle.std.proofs.Common.{◌≡◌, ◌≢◌, ℕ, zero, suc, ◌+◌, ◌-◌, ◌*◌, ◌<◌, ◌≤◌, true, false, cond, nat_le, List, [], ◌∷◌, length, slice_get, Some, refl, ap, ◌∙◌, sym, subst, arith, ⊎_elim}
 use Rattle.std.proofs.lemmas.Bool.{cases_lt}
 use Rattle.std.proofs.lemmas.Bool.Decides.{nat_tests}
-use Rattle.std.proofs.Common.{⊎_elim}
-use Rattle.rx_base.specs.declared.ids.PlaceId.{PlaceId}
-use Rattle.rx_base.specs.declared.ids.Kill.{Kill}
+use Rattle.rx_rules.proofs.Common.{PlaceId, Kill, Given, Event, in_all, put_in, events, plan_of, AreJoins, AreKills, Spares, Proper}
 use Rattle.rx_base.proofs.Elements.{get-within}
 use Rattle.rx_rules.specs.declared.entries.Entry.{Entry}
 use Rattle.rx_rules.specs.declared.entries.Entry.TheVariants.{Death, Join}
-use Rattle.rx_rules.specs.Run.{Given, Event, in_all, put_in, events, plan_of, AreJoins, AreKills, Spares, Proper}
 use Rattle.rx_rules.proofs.Plans.{join_at, NotBefore, starts-join, starts-death}
 use Rattle.rx_runs.specs.Ties.{MayCome, SparesIn}
 use Rattle.rx_runs.proofs.Pigeons.{kills_fit}

@@ -1,23 +1,16 @@
 -- Each task plays, after a turn.
-use Rattle.rx_rules.specs.Terms.{Vars}
-use Rattle.std.specs.Prelude.{◌≡◌, ℕ, suc, ◌<◌, ◌≤◌, Bool, true, false, ◌==◌, List, [], ◌∷◌, ◌++◌, length, slice_set, refl}
+use Rattle.rx_rules.proofs.Common.{Vars, PlaceId, TaskId, Fault, Term, Done, does, granted, Birth, Plays, StartsSo, birth_of, moves_from, journal_at, cell_of, travels, brought, vars_told, State, Player}
+use Rattle.std.proofs.Common.{◌≡◌, ℕ, suc, ◌<◌, ◌≤◌, Bool, true, false, ◌==◌, List, [], ◌∷◌, ◌++◌, length, slice_set, refl, ap, ◌∙◌, sym, subst, arith, inl, inr}
 use Rattle.std.specs.List.{filter_map}
-use Rattle.std.proofs.Common.{ap, ◌∙◌, sym, subst, arith, inl, inr}
 use Rattle.std.proofs.lemmas.Bool.{eqb-true, eq-eqb, true≢false}
 use Rattle.std.proofs.lemmas.List.{append-nil}
 use Rattle.std.proofs.lemmas.List.Elements.{filter_map-append}
-use Rattle.rx_base.specs.declared.ids.PlaceId.{PlaceId}
-use Rattle.rx_base.specs.declared.ids.TaskId.{TaskId}
-use Rattle.rx_base.specs.declared.values.Fault.{Fault}
 use Rattle.rx_rules.specs.declared.entries.Act.{Act}
 use Rattle.rx_rules.specs.declared.entries.Act.TheVariants.{Arrive, End}
 use Rattle.rx_rules.specs.declared.events.Cell.{Cell}
 use Rattle.rx_rules.specs.declared.entries.Entry.{Entry}
 use Rattle.rx_rules.specs.declared.events.PlaceEvent.{PlaceEvent}
-use Rattle.rx_rules.specs.Terms.{Term, Done, does, granted}
-use Rattle.rx_rules.specs.Plays.{Birth, Plays, Fits, StartsSo, birth_of, moves_from, journal_at, cell_of, travels, brought, vars_told}
-use Rattle.rx_rules.specs.Store.{State}
-use Rattle.rx_rules.specs.Picked.{Player}
+use Rattle.rx_rules.specs.Plays.{Fits}
 use Rattle.rx_runs.specs.Segments.{StandGoes, stays, asks}
 use Rattle.rx_runs.specs.Ties.{Moves, HasLanded, has_end}
 use Rattle.rx_runs.specs.Games.{TaskSo, away, going, over, PlayerSo, Landed, stand, fresh}

@@ -1,11 +1,9 @@
 -- One entry more.
-use Rattle.std.specs.Prelude.{◌≡◌, ℕ, suc, ◌+◌, List, [], ◌∷◌, ◌++◌, length, Option, Some, None, refl}
-use Rattle.std.proofs.Common.{ap, ◌∙◌, sym, arith, subst}
+use Rattle.std.proofs.Common.{◌≡◌, ℕ, suc, ◌+◌, List, [], ◌∷◌, ◌++◌, length, Option, Some, None, refl, ap, ◌∙◌, sym, arith, subst}
 use Rattle.std.specs.List.{cons_option}
-use Rattle.rx_rules.specs.Plays.{Birth, moves_from, move_of, birth_in, birth_from}
+use Rattle.rx_rules.proofs.Common.{Birth, moves_from, move_of, birth_in, birth_from, Event, PlanKept, rest_of}
 use Rattle.rx_rules.specs.declared.entries.Entry.{Entry}
 use Rattle.rx_rules.specs.declared.entries.Entry.TheVariants.{Step, Root, Death, Join}
-use Rattle.rx_rules.specs.Run.{Event, PlanKept, rest_of}
 use Rattle.rx_runs.specs.Segments.{plan_left, InTime}
 
 alone : (n : ℕ) (xs : List Event) (e : Entry) → InTime n xs e → PlanKept n xs (e ∷ [])

@@ -1,8 +1,8 @@
 -- Histories in which no entry follows a release of the root.
-use Rattle.std.specs.Prelude.{List, [], ◌∷◌, ◌++◌, refl}
+use Rattle.std.proofs.Common.{List, [], ◌∷◌, ◌++◌, refl}
 use Rattle.rx_rules.specs.declared.entries.Entry.{Entry}
 use Rattle.rx_rules.specs.declared.entries.Entry.TheVariants.{Step, Root, Death, Join}
-use Rattle.rx_rules.specs.Run.{NoRoot, EndsWithRoot}
+use Rattle.rx_rules.proofs.Common.{NoRoot, EndsWithRoot}
 use Rattle.rx_runs.specs.Rooted.{RootIsLast}
 
 pub root_last-push : (es : List Entry) (e : Entry) → NoRoot es → RootIsLast (es ++ e ∷ [])

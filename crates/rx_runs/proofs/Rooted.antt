@@ -1,29 +1,18 @@
 -- The release of the root ends a run.
-use Rattle.rx_rules.specs.Terms.{Vars}
-use Rattle.std.specs.Prelude.{◌≡◌, ℕ, suc, ◌+◌, Bool, true, List, [], ◌∷◌, ◌++◌, length, Option, refl}
+use Rattle.rx_rules.proofs.Common.{Vars, PlaceSet, Fault, Term, Block, births, births_of, opening, Birth, Begins, Plays, EachPlays, birth_of, travels, cell_of, journal_at, moves_from, State, Given, in_all, Event, plan_of, IsRun, AllJournals, EndsWithRoot, ClosesAt, death_number, NoneDue, Player, Game, Turn, tree_in, NoRoot}
+use Rattle.std.proofs.Common.{◌≡◌, ℕ, suc, ◌+◌, Bool, true, List, [], ◌∷◌, ◌++◌, length, Option, refl, ◌∙◌, sym, subst, arith, inl, inr}
 use Rattle.std.specs.List.{filter_map}
-use Rattle.std.proofs.Common.{◌∙◌, sym, subst, arith, inl, inr}
 use Rattle.std.proofs.lemmas.List.{append-nil}
 use Rattle.std.proofs.lemmas.List.Sums.{sum_by-append}
-use Rattle.rx_base.specs.declared.place_set.PlaceSet.{PlaceSet}
-use Rattle.rx_base.specs.declared.values.Fault.{Fault}
 use Rattle.rx_rules.specs.declared.entries.Act.{Act}
 use Rattle.rx_rules.specs.declared.events.Cell.{Cell}
 use Rattle.rx_rules.specs.declared.entries.Entry.{Entry}
 use Rattle.rx_rules.specs.declared.entries.Entry.TheVariants.{Step, Root, Death, Join}
 use Rattle.rx_rules.specs.declared.events.PlaceEvent.{PlaceEvent}
-use Rattle.rx_rules.specs.Terms.{Term}
-use Rattle.rx_rules.specs.Code.{Block}
-use Rattle.rx_rules.specs.Fold.{births, births_of, opening}
-use Rattle.rx_rules.specs.Plays.{Birth, Begins, Plays, EachPlays, birth_of, travels, cell_of, journal_at, moves_from}
-use Rattle.rx_rules.specs.Store.{State}
-use Rattle.rx_rules.specs.Run.{Given, in_all, Event, plan_of, IsRun, AllJournals, EndsWithRoot, ClosesAt, death_number, NoneDue}
 use Rattle.rx_rules.specs.Picked as picked
-use Rattle.rx_rules.specs.Picked.{Player, Game, Turn, tree_in}
 use Rattle.rx_runs.proofs.Journals.{homes_on, none_first}
 use Rattle.rx_runs.proofs.Append.{allowed-push}
 use Rattle.rx_runs.specs.Segments.{plan_left, InTime}
-use Rattle.rx_rules.specs.Run.{NoRoot}
 use Rattle.rx_rules.proofs.Append.{root-push}
 use Rattle.rx_runs.specs.Games.{TaskSo, away, going, over, Pairs, PlayerSo, JournalSo, Landed, GameOk}
 use Rattle.rx_runs.proofs.Segments.{stopped}

@@ -1,11 +1,8 @@
 -- The kinds of a task's own scopes, and the tasks of the tree, after an act of a task.
-use Rattle.std.specs.Prelude.{◌≡◌, ◌≢◌, ℕ, ◌<◌, Bool, true, false, cond, not, ◌==◌, List, [], ◌∷◌, ◌++◌, filter, map, Option, Some, None, refl}
+use Rattle.std.proofs.Common.{◌≡◌, ◌≢◌, ℕ, ◌<◌, Bool, true, false, cond, not, ◌==◌, List, [], ◌∷◌, ◌++◌, filter, map, Option, Some, None, refl, ap, ◌∙◌, sym, subst, arith}
 use Rattle.std.specs.List.{find}
-use Rattle.std.proofs.Common.{ap, ◌∙◌, sym, subst, arith}
 use Rattle.std.proofs.lemmas.Bool.{eqb-true, ne_eqb, false_from_ne_true}
-use Rattle.rx_base.specs.declared.ids.TaskId.{TaskId}
-use Rattle.rx_base.specs.declared.ids.ScopeId.{ScopeId}
-use Rattle.rx_base.specs.declared.values.Fault.{Fault}
+use Rattle.rx_rules.proofs.Common.{TaskId, ScopeId, Fault, Tree, is_task, task_of, is_scope, opened_by, on_chain, quiet, change_first, waiting, resumed, without, born, home_for, made_act, after_end, AllowedAct}
 use Rattle.rx_base.proofs.Elements.{find-passes}
 use Rattle.rx_base.proofs.SameIds.{task-is}
 use Rattle.rx_rules.specs.declared.tasks.Where.TheVariants.{At}
@@ -15,8 +12,6 @@ use Rattle.rx_rules.specs.declared.tasks.Kind.{Kind}
 use Rattle.rx_rules.specs.declared.tasks.Kind.TheVariants.{Finish, Call}
 use Rattle.rx_rules.specs.declared.entries.Act.{Act}
 use Rattle.rx_rules.specs.declared.entries.Act.TheVariants.{Open, At as Calls, Spawn, Arrive, Wait, Release, End, Print, Census}
-use Rattle.rx_rules.specs.Tree.{Tree, is_task, task_of, is_scope, opened_by, on_chain, quiet}
-use Rattle.rx_rules.specs.Entries.{change_first, waiting, resumed, without, born, home_for, made_act, after_end, AllowedAct}
 use Rattle.rx_sound.specs.Sound.{Each, TasksFall, Sound}
 use Rattle.rx_sound.proofs.Changes.{each_found, each_filter}
 use Rattle.rx_sound.proofs.Stay.{faulted}

@@ -1,14 +1,10 @@
 -- Segments of what a task plays.
-use Rattle.rx_rules.specs.Terms.{Vars}
-use Rattle.std.specs.Prelude.{◌≡◌, ℕ, ◌≤◌, List, [], ◌∷◌, ◌++◌}
-use Rattle.rx_base.specs.declared.ids.PlaceId.{PlaceId}
-use Rattle.rx_base.specs.declared.values.Fault.{Fault}
+use Rattle.rx_rules.proofs.Common.{Vars, PlaceId, Fault, Term, Done, does, Plays, started_by}
+use Rattle.std.proofs.Common.{◌≡◌, ℕ, ◌≤◌, List, [], ◌∷◌, ◌++◌}
 use Rattle.rx_rules.specs.declared.entries.Act.{Act}
 use Rattle.rx_rules.specs.declared.entries.Act.TheVariants.{End}
 use Rattle.rx_rules.specs.declared.events.Cell.{Cell}
-use Rattle.rx_rules.specs.Terms.{Term, Done, does}
 use Rattle.rx_rules.specs.Plays as rules
-use Rattle.rx_rules.specs.Plays.{Plays, started_by}
 use Rattle.rx_runs.specs.Segments.{Stand, StandGoes, stays, local, stores, asks}
 
 -- one after another

@@ -1,20 +1,13 @@
 -- Sums over the entries of a history, by their tasks and by the tasks that they start.
-use Rattle.std.specs.Prelude.{◌≡◌, ℕ, zero, suc, ◌+◌, ◌<◌, ◌≤◌, true, false, cond, ◌==◌, List, [], ◌∷◌, length, slice_get, Option, Some, None, All, refl}
+use Rattle.std.proofs.Common.{◌≡◌, ℕ, zero, suc, ◌+◌, ◌<◌, ◌≤◌, true, false, cond, ◌==◌, List, [], ◌∷◌, length, slice_get, Option, Some, None, All, refl, ap, ◌∙◌, sym, arith}
 use Rattle.std.specs.List.{cons_option}
-use Rattle.std.proofs.Common.{ap, ◌∙◌, sym, arith}
 use Rattle.std.proofs.lemmas.Bool.{eq-eqb, true≢false}
 use Rattle.std.proofs.lemmas.List.Sums.{sum_by-cons}
-use Rattle.rx_base.specs.declared.ids.TaskId.{TaskId}
+use Rattle.rx_rules.proofs.Common.{TaskId, Term, Vars, Tree, made, Allowed, AllowedAct, births, births_of, AllAllowed, Reached, IsOlder, Starts, started_by, move_of, moves_from}
 use Rattle.rx_rules.specs.declared.entries.Act.{Act}
 use Rattle.rx_rules.specs.declared.entries.Act.TheVariants.{Open, At as Calls, Spawn, Arrive, Wait, Release, End, Print, Census}
 use Rattle.rx_rules.specs.declared.entries.Entry.{Entry}
 use Rattle.rx_rules.specs.declared.entries.Entry.TheVariants.{Step, Root, Death, Join}
-use Rattle.rx_rules.specs.Terms.{Term, Vars}
-use Rattle.rx_rules.specs.Tree.{Tree}
-use Rattle.rx_rules.specs.Entries.{made, Allowed, AllowedAct}
-use Rattle.rx_rules.specs.Fold.{births, births_of, AllAllowed}
-use Rattle.rx_rules.specs.Reached.{Reached, IsOlder}
-use Rattle.rx_rules.specs.Plays.{Starts, started_by, move_of, moves_from}
 use Rattle.rx_rules.proofs.Numbers.{next-made}
 use Rattle.rx_sound.proofs.Reach.{task_below}
 use Rattle.rx_sound.proofs.Reached.{sound}

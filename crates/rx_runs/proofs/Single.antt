@@ -1,10 +1,6 @@
 -- One script, setup and list of picks give one picked run.
-use Rattle.std.specs.Prelude.{◌≡◌, ℕ, suc, ◌+◌, ◌%◌, ◌<◌, ◌≤◌, Bool, true, false, List, [], ◌∷◌, ◌++◌, length, map, slice_get, slice_set, Some, refl}
-use Rattle.std.proofs.Common.{ap, ◌∙◌, sym, subst, arith}
-use Rattle.rx_base.specs.declared.ids.PlaceId.{PlaceId}
-use Rattle.rx_base.specs.declared.ids.TaskId.{TaskId}
-use Rattle.rx_base.specs.declared.place_set.PlaceSet.{PlaceSet}
-use Rattle.rx_base.specs.declared.values.Fault.{Fault}
+use Rattle.std.proofs.Common.{◌≡◌, ℕ, suc, ◌+◌, ◌%◌, ◌<◌, ◌≤◌, Bool, true, false, List, [], ◌∷◌, ◌++◌, length, map, slice_get, slice_set, Some, refl, ap, ◌∙◌, sym, subst, arith}
+use Rattle.rx_rules.proofs.Common.{PlaceId, TaskId, PlaceSet, Fault, Block, Done, does, Tree, the_root, AllowedAct, State, Given, NoRoot, EndsWithRoot, Event, IsDue, rest_of, Player, Game, Turn, IsPicked, none, more, used_after, with_entry, closed_by, acted, child_of, enabled, tree_in, start_game}
 use Rattle.rx_base.proofs.Elements.{not-empty}
 use Rattle.rx_rules.specs.declared.tasks.Where.TheVariants.{At, Travel}
 use Rattle.rx_rules.specs.declared.tasks.Task.{Task}
@@ -13,15 +9,9 @@ use Rattle.rx_rules.specs.declared.entries.Act.TheVariants.{Arrive, End}
 use Rattle.rx_rules.specs.declared.entries.Entry.{Entry}
 use Rattle.rx_rules.specs.declared.entries.Entry.TheVariants.{Step, Root, Death, Join}
 use Rattle.rx_rules.specs.declared.events.PlaceEvent.{PlaceEvent}
-use Rattle.rx_rules.specs.Code.{Block}
-use Rattle.rx_rules.specs.Terms.{Done, does}
-use Rattle.rx_rules.specs.Tree.{Tree, the_root}
-use Rattle.rx_rules.specs.Entries.{AllowedAct}
 use Rattle.rx_rules.specs.Plays.{Fits}
-use Rattle.rx_rules.specs.Store.{State}
-use Rattle.rx_rules.specs.Run.{Given, NoRoot, EndsWithRoot, Event, IsDue, rest_of}
 use Rattle.rx_rules.specs.Picked as picked
-use Rattle.rx_rules.specs.Picked.{Player, Game, Turn, Turns, IsPicked, none, more, used_after, with_entry, closed_by, acted, child_of, enabled, tree_in, start_game}
+use Rattle.rx_rules.specs.Picked.{Turns}
 use Rattle.rx_rules.proofs.Kills.{due-not}
 use Rattle.rx_runs.specs.Games.{GameOk}
 use Rattle.rx_runs.specs.PickedRuns.{ActFits, SetsFit, plain, OnePickedRun, FewPicks}

@@ -1,17 +1,10 @@
 -- No list of entries costs its terms more steps than the script's work pays for.
-use Rattle.std.specs.Prelude.{◌≡◌, ℕ, suc, ◌+◌, ◌*◌, ◌≤◌, Bool, true, false, List, [], ◌∷◌, length, slice_get, Option, Some, None, refl}
-use Rattle.std.proofs.Common.{ap, sym, subst, arith}
-use Rattle.rx_base.specs.declared.ids.PlaceId.{PlaceId}
-use Rattle.rx_base.specs.declared.ids.TaskId.{TaskId}
+use Rattle.std.proofs.Common.{◌≡◌, ℕ, suc, ◌+◌, ◌*◌, ◌≤◌, Bool, true, false, List, [], ◌∷◌, length, slice_get, Option, Some, None, refl, ap, sym, subst, arith}
+use Rattle.rx_rules.proofs.Common.{PlaceId, TaskId, work, Term, Empty, Vars, items, Answer, answered, Does, Local, Makes, Gets, Puts, Forgets, Opens, Calls as Asks, Spawns, Waits, Releases, Prints, Counts, Done, does, granted, child, made, births, opening, opens, Starts, brought, started_by, raised_by, moves_from, birth_of, travels}
 use Rattle.rx_rules.specs.declared.entries.Act.{Act}
 use Rattle.rx_rules.specs.declared.entries.Act.TheVariants.{Open, At as Calls, Spawn, Arrive, Wait, Release, End, Print, Census}
 use Rattle.rx_rules.specs.declared.entries.Entry.{Entry}
-use Rattle.rx_rules.specs.Code.{work}
-use Rattle.rx_rules.specs.Terms.{Term, Empty, Vars, items, Answer, answered, Does, Local, Makes, Gets, Puts, Forgets, Opens, Calls as Asks, Spawns, Waits, Releases, Prints, Counts, Done, does, granted, child}
-use Rattle.rx_rules.specs.Entries.{made}
-use Rattle.rx_rules.specs.Fold.{births, opening}
-use Rattle.rx_rules.specs.Reached.{opens}
-use Rattle.rx_rules.specs.Plays.{Starts, Fits, brought, started_by, raised_by, moves_from, birth_of, travels}
+use Rattle.rx_rules.specs.Plays.{Fits}
 use Rattle.rx_sound.proofs.Histories.{none_yet}
 use Rattle.rx_runs.specs.Steps.{steps, Sinks}
 use Rattle.rx_runs.specs.Ties.{Moves}

@@ -1,24 +1,15 @@
 -- The local steps and store calls of a turn, as a segment and as a piece of a journal.
-use Rattle.rx_rules.specs.Terms.{Vars}
-use Rattle.std.specs.Prelude.{◌≡◌, ◌≢◌, ℕ, ◌+◌, ◌<◌, ◌≤◌, ◌==◌, Bool, true, false, List, [], ◌∷◌, ◌++◌, refl}
+use Rattle.rx_rules.proofs.Common.{Vars, PlaceId, TaskId, Term, births, birth_of, cell_of, State, Player, AtHome, NotFalling, close_in}
+use Rattle.std.proofs.Common.{◌≡◌, ◌≢◌, ℕ, ◌+◌, ◌<◌, ◌≤◌, ◌==◌, Bool, true, false, List, [], ◌∷◌, ◌++◌, refl, ◌∙◌, sym, arith, append_assoc}
 use Rattle.std.specs.List.{filter_map}
-use Rattle.std.proofs.Common.{◌∙◌, sym, arith, append_assoc}
 use Rattle.std.proofs.lemmas.List.{append-nil}
 use Rattle.std.proofs.lemmas.Bool.{eq-eqb, eqb-true}
-use Rattle.rx_base.specs.declared.ids.PlaceId.{PlaceId}
-use Rattle.rx_base.specs.declared.ids.TaskId.{TaskId}
 use Rattle.rx_rules.specs.declared.entries.Entry.{Entry}
 use Rattle.rx_rules.specs.declared.events.PlaceEvent.{PlaceEvent}
 use Rattle.rx_rules.specs.declared.events.PlaceEvent.TheVariants.{Done as Did}
-use Rattle.rx_rules.specs.Terms.{Term}
-use Rattle.rx_rules.specs.Fold.{births}
-use Rattle.rx_rules.specs.Plays.{birth_of, cell_of}
-use Rattle.rx_rules.specs.Store.{State}
 use Rattle.rx_rules.specs.Picked as picked
-use Rattle.rx_rules.specs.Picked.{Player}
 use Rattle.rx_runs.specs.Segments.{StandGoes, stays, local, stores}
 use Rattle.rx_runs.specs.Games.{stand, Leads, rests, steps, NotAbove}
-use Rattle.rx_rules.specs.Run.{AtHome, NotFalling, close_in}
 
 -- what a turn adds to a journal, and what it means
 pub record Piece (starts : List (Term × Vars)) (heap n : ℕ) (t : TaskId) (here : PlaceId) (low : ℕ) (p : Player) (S : State) (j : List PlaceEvent) (q : Player) (Z : State) (k : List PlaceEvent) : Type 0 where

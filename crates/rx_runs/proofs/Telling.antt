@@ -1,16 +1,9 @@
 -- The store answers a call in one way.
-use Rattle.std.specs.Prelude.{◌≡◌, ℕ, ℤ, ◌<◌, ◌≤◌, Bool, true, false, cond, Some, None, refl}
-use Rattle.std.proofs.Common.{ap, ◌∙◌, sym, subst, arith, ⊎_elim}
+use Rattle.std.proofs.Common.{◌≡◌, ℕ, ℤ, ◌<◌, ◌≤◌, Bool, true, false, cond, Some, None, refl, ap, ◌∙◌, sym, subst, arith, ⊎_elim}
 use Rattle.std.proofs.lemmas.Bool.{true≢false, cases_lt}
-use Rattle.rx_base.specs.declared.ids.PlaceId.{PlaceId}
-use Rattle.rx_base.specs.declared.ids.GlobalRef.{GlobalRef}
-use Rattle.rx_base.specs.declared.values.Value.TheVariants.{Num as Number, Ref}
-use Rattle.rx_base.specs.declared.values.Fault.TheVariants.{Stale, Index}
+use Rattle.rx_rules.proofs.Common.{PlaceId, GlobalRef, Number, Ref, Stale, Index, Answer, Gives, Fails, Does, Local, Makes, Gets, Puts, Forgets, Opens, Calls, Spawns, Waits, Releases, Prints, Counts, Done, Tells, State, Live, block_of, fits, IsLeastFree, is_index, word_at, Reads, Refuses, MayCell}
 use Rattle.rx_rules.specs.declared.events.Cell.{Cell}
 use Rattle.rx_rules.specs.declared.events.Cell.TheVariants.{Make, MakeFull, Get, Put, Forget, GetRefused, PutRefused, ForgetStale}
-use Rattle.rx_rules.specs.Terms.{Answer, Gives, Fails, Does, Local, Makes, Gets, Puts, Forgets, Opens, Calls, Spawns, Waits, Releases, Prints, Counts, Done}
-use Rattle.rx_rules.specs.Plays.{Tells}
-use Rattle.rx_rules.specs.Store.{State, Live, block_of, fits, IsLeastFree, is_index, word_at, Reads, Refuses, MayCell}
 
 pub least_once : (w : ℕ) (S : State) (n a b : ℕ) → IsLeastFree w S n a → IsLeastFree w S n b → a ≡ b
 least_once w S n a b h k =

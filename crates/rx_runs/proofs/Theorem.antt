@@ -1,12 +1,10 @@
 -- A picked run is a run.
-use Rattle.std.specs.Prelude.{◌≡◌, ℕ, Bool, List, [], ◌∷◌, ◌++◌, refl}
-use Rattle.std.proofs.Common.{subst, sym}
+use Rattle.std.proofs.Common.{◌≡◌, ℕ, Bool, List, [], ◌∷◌, ◌++◌, refl, subst, sym}
 use Rattle.rx_rules.specs.declared.entries.Entry.{Entry}
 use Rattle.rx_rules.specs.declared.entries.Entry.TheVariants.{Step, Root, Death, Join}
 use Rattle.rx_rules.specs.declared.events.PlaceEvent.{PlaceEvent}
-use Rattle.rx_rules.specs.Code.{Block}
-use Rattle.rx_rules.specs.Run.{Given, NoRoot, EndsWithRoot, IsRun}
-use Rattle.rx_rules.specs.Picked.{Game, Turn, Turns, none, more, due as planned, arrives, moves, ends, root}
+use Rattle.rx_rules.proofs.Common.{Block, Given, NoRoot, EndsWithRoot, IsRun, Game, Turn, none, more, planned, arrives, moves, root}
+use Rattle.rx_rules.specs.Picked.{Turns, ends}
 use Rattle.rx_runs.specs.Games.{GameOk}
 use Rattle.rx_runs.specs.PickedRuns.{PickedIsRun}
 use Rattle.rx_runs.proofs.Rooted.{root_is_run}

@@ -1,13 +1,9 @@
 -- Each entry keeps what ties the tree to the history.
-use Rattle.std.specs.Prelude.{◌≡◌, ◌≢◌, ℕ, suc, ◌+◌, ◌<◌, ◌≤◌, Bool, true, false, cond, not, ◌&&◌, ◌==◌, List, [], ◌∷◌, ◌++◌, length, map, filter, slice_index_or, slice_set, Option, Some, None, is_none, option_map, refl}
-use Rattle.std.proofs.Common.{ap, ◌∙◌, sym, subst, arith, length-set}
+use Rattle.std.proofs.Common.{◌≡◌, ◌≢◌, ℕ, suc, ◌+◌, ◌<◌, ◌≤◌, Bool, true, false, cond, not, ◌&&◌, ◌==◌, List, [], ◌∷◌, ◌++◌, length, map, filter, slice_index_or, slice_set, Option, Some, None, is_none, option_map, refl, ap, ◌∙◌, sym, subst, arith, length-set}
 use Rattle.std.proofs.lemmas.Bool.{eq-eqb, eqb-true, true≢false, or_parts}
 use Rattle.std.proofs.lemmas.List.{append-nil, get_or-set_same, get_or-set_other}
 use Rattle.std.proofs.lemmas.List.Folds.{list_any-append}
-use Rattle.rx_base.specs.declared.ids.PlaceId.{PlaceId}
-use Rattle.rx_base.specs.declared.ids.TaskId.{TaskId}
-use Rattle.rx_base.specs.declared.ids.ScopeId.{ScopeId}
-use Rattle.rx_base.specs.declared.values.Fault.{Fault}
+use Rattle.rx_rules.proofs.Common.{PlaceId, TaskId, ScopeId, Fault, Tree, is_task, death_of, change_first, hit, is_hit, strike, waiting, resumed, born, widened, made_act, after_end, AllowedAct, Birth, birth_in, birth_of, moves_from, started_by, death_number}
 use Rattle.rx_rules.specs.declared.tasks.Where.{Where}
 use Rattle.rx_rules.specs.declared.tasks.Where.TheVariants.{At, Travel}
 use Rattle.rx_rules.specs.declared.entries.Act.{Act}
@@ -16,10 +12,6 @@ use Rattle.rx_rules.specs.declared.entries.Entry.{Entry}
 use Rattle.rx_rules.specs.declared.entries.Entry.TheVariants.{Step, Death, Join}
 use Rattle.rx_rules.specs.declared.tasks.Task.{Task}
 use Rattle.rx_rules.specs.declared.tasks.Blow.{Blow}
-use Rattle.rx_rules.specs.Tree.{Tree, is_task, death_of}
-use Rattle.rx_rules.specs.Entries.{change_first, hit, is_hit, strike, waiting, resumed, born, widened, made_act, after_end, AllowedAct}
-use Rattle.rx_rules.specs.Plays.{Birth, birth_in, birth_of, moves_from, started_by}
-use Rattle.rx_rules.specs.Run.{death_number}
 use Rattle.rx_rules.proofs.Append.{end-tasks}
 use Rattle.rx_sound.proofs.Blows.{hit_number, hit_place}
 use Rattle.rx_runs.specs.Ties.{Moves, is_end, has_end, HasLanded, PlaceSo, RowSo, RowsSo, Ties}

@@ -1,21 +1,12 @@
 -- A task at a place walks on to an entry or to its end: the store always answers, and each step leaves fewer.
-use Rattle.std.specs.Prelude.{◌≡◌, ℕ, zero, suc, ℤ, ◌+◌, ◌<◌, ◌≤◌, Bool, true, false, nat_le, List, [], ◌∷◌, ◌++◌, Option, Some, None, ◌⊎◌, refl}
+use Rattle.std.proofs.Common.{◌≡◌, ℕ, zero, suc, ℤ, ◌+◌, ◌<◌, ◌≤◌, Bool, true, false, nat_le, List, [], ◌∷◌, ◌++◌, Option, Some, None, ◌⊎◌, refl, ap, ◌∙◌, sym, subst, arith, ⊎_elim, inl, inr}
 use Rattle.std.specs.List.{list_all}
-use Rattle.std.proofs.Common.{ap, ◌∙◌, sym, subst, arith, ⊎_elim, inl, inr}
 use Rattle.std.proofs.lemmas.Bool.{leb-true, false_from_ne_true, and_parts, cases_lt}
-use Rattle.rx_base.specs.declared.ids.PlaceId.{PlaceId}
-use Rattle.rx_base.specs.declared.ids.TaskId.{TaskId}
-use Rattle.rx_base.specs.declared.ids.GlobalRef.{GlobalRef}
-use Rattle.rx_base.specs.declared.values.Value.TheVariants.{Num as Number, Ref}
-use Rattle.rx_base.specs.declared.values.Fault.TheVariants.{Stale, Index, HeapFull}
+use Rattle.rx_rules.proofs.Common.{PlaceId, TaskId, GlobalRef, Number, Ref, Stale, Index, HeapFull, Answer, Gives, Fine, Fails, answered, vars_after, Does, Local, Makes, Gets, Puts, Forgets, Opens, Calls, Spawns, Waits, Releases, Prints, Counts, Done, does, Tells, begun, State, Live, block_of, fits, is_apart, IsLeastFree, is_index, word_at, MayCell, after_cell, Player, Goes, stays, local, stores}
 use Rattle.rx_rules.specs.declared.events.Cell.{Cell}
 use Rattle.rx_rules.specs.declared.events.Cell.TheVariants.{Make, MakeFull, Get, Put, Forget, GetRefused, PutRefused, ForgetStale}
 use Rattle.rx_rules.specs.declared.events.PlaceEvent.{PlaceEvent}
 use Rattle.rx_rules.specs.declared.events.PlaceEvent.TheVariants.{Done as Did}
-use Rattle.rx_rules.specs.Terms.{Answer, Gives, Fine, Fails, answered, vars_after, Does, Local, Makes, Gets, Puts, Forgets, Opens, Calls, Spawns, Waits, Releases, Prints, Counts, Done, does}
-use Rattle.rx_rules.specs.Plays.{Tells, begun}
-use Rattle.rx_rules.specs.Store.{State, Live, block_of, fits, is_apart, IsLeastFree, is_index, word_at, MayCell, after_cell}
-use Rattle.rx_rules.specs.Picked.{Player, Goes, stays, local, stores}
 use Rattle.rx_runs.specs.Framing.{frames, Shape}
 use Rattle.rx_runs.specs.Steps.{steps, Sinks}
 use Rattle.rx_runs.proofs.Framing.{Framed, Stored, enough, all_framed}

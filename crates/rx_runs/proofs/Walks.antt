@@ -1,19 +1,13 @@
 -- The local steps and store calls of a turn are one walk.
-use Rattle.std.specs.Prelude.{◌≡◌, ℕ, List, [], ◌∷◌, ◌++◌, length, slice_get, Some, refl}
-use Rattle.std.proofs.Common.{ap, ◌∙◌, sym, subst}
-use Rattle.rx_base.specs.declared.ids.PlaceId.{PlaceId}
-use Rattle.rx_base.specs.declared.ids.TaskId.{TaskId}
+use Rattle.std.proofs.Common.{◌≡◌, ℕ, List, [], ◌∷◌, ◌++◌, length, slice_get, Some, refl, ap, ◌∙◌, sym, subst}
+use Rattle.rx_rules.proofs.Common.{PlaceId, TaskId, Term, Vars, Answer, answered, vars_after, Does, Local, Makes, Gets, Puts, Forgets, Opens, Calls, Spawns, Waits, Releases, Prints, Counts, Done, does, Tells, begun, journal_at, State, after_cell, Given, Player, Game, Goes, stays, local, stores, enabled, tree_in}
 use Rattle.rx_rules.specs.declared.tasks.Where.TheVariants.{At}
 use Rattle.rx_rules.specs.declared.tasks.Task.{Task}
 use Rattle.rx_rules.specs.declared.entries.Act.{Act}
 use Rattle.rx_rules.specs.declared.events.Cell.{Cell}
 use Rattle.rx_rules.specs.declared.events.PlaceEvent.{PlaceEvent}
 use Rattle.rx_rules.specs.declared.events.PlaceEvent.TheVariants.{Done as Did}
-use Rattle.rx_rules.specs.Terms.{Term, Vars, Answer, answered, vars_after, Does, Local, Makes, Gets, Puts, Forgets, Opens, Calls, Spawns, Waits, Releases, Prints, Counts, Done, does}
-use Rattle.rx_rules.specs.Plays.{Tells, Fits, begun, journal_at}
-use Rattle.rx_rules.specs.Store.{State, after_cell}
-use Rattle.rx_rules.specs.Run.{Given}
-use Rattle.rx_rules.specs.Picked.{Player, Game, Goes, stays, local, stores, enabled, tree_in}
+use Rattle.rx_rules.specs.Plays.{Fits}
 use Rattle.rx_runs.proofs.Telling.{tell_once}
 
 -- what a term does at the end of a turn

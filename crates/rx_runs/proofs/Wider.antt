@@ -1,16 +1,10 @@
 -- What a task has played, under a longer list of starts and in a longer history.
-use Rattle.rx_rules.specs.Terms.{Vars}
-use Rattle.std.specs.Prelude.{◌≡◌, ℕ, ◌≤◌, Bool, true, false, List, [], ◌∷◌, Option, Some, None, slice_get}
-use Rattle.std.proofs.Common.{arith}
-use Rattle.rx_base.specs.declared.ids.TaskId.{TaskId}
-use Rattle.rx_base.specs.declared.ids.PlaceId.{PlaceId}
+use Rattle.rx_rules.proofs.Common.{Vars, TaskId, PlaceId, Term, child, Birth, Plays, Begins, started_by, Player}
+use Rattle.std.proofs.Common.{◌≡◌, ℕ, ◌≤◌, Bool, true, false, List, [], ◌∷◌, Option, Some, None, slice_get, arith}
 use Rattle.rx_rules.specs.declared.entries.Act.{Act}
 use Rattle.rx_rules.specs.declared.entries.Act.TheVariants.{Open, At as Calls, Spawn, Arrive, Wait, Release, End, Print, Census}
 use Rattle.rx_rules.specs.declared.events.Cell.{Cell}
-use Rattle.rx_rules.specs.Terms.{Term, child}
 use Rattle.rx_rules.specs.Plays as rules
-use Rattle.rx_rules.specs.Plays.{Birth, Plays, Begins, started_by}
-use Rattle.rx_rules.specs.Picked.{Player}
 use Rattle.rx_runs.specs.Segments.{Stand, StandGoes, stays, local, stores, asks}
 use Rattle.rx_runs.specs.Games.{TaskSo, away, going, over}
 

@@ -1,8 +1,7 @@
 -- What stands in a list of parts goes on standing as the list grows.
-use Rattle.std.proofs.Common.{◌≡◌, ℕ, List, [], ◌∷◌, ◌++◌, ap, sym, ◌∙◌, append_assoc, append-nil}
-use Rattle.std.specs.Prelude.{Some, slice_get}
+use Rattle.std.proofs.Common.{◌≡◌, ℕ, List, [], ◌∷◌, ◌++◌, ap, sym, ◌∙◌, append_assoc, append-nil, Some, slice_get}
 use Rattle.rx_base.proofs.Elements.{more-at}
-use Rattle.rx_rules.specs.Code.{Expr, Num, Name, Here, Bin, Stmt, SetTo, New, Get, Put, Forget, Census, Print, Throw, Async, AtAsync, At, Finish, If, Repeat, Try, Block, Nothing, Then}
+use Rattle.rx_rules.proofs.Common.{Expr, Num, Name, Here, Bin, Stmt, SetTo, New, Get, Put, Forget, Census, Print, Throw, Async, AtAsync, At, Finish, If, Repeat, Try, Block, Nothing, Then}
 use Rattle.rx_syntax.specs.Shape.{Shape, ExprStands, StmtIs, ListStands}
 use Rattle.rx_script.specs.Inside.Pieces.{Grows}
 use Rattle.rx_syntax.specs.declared.nodes.StmtId.{StmtId}

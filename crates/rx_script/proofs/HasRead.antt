@@ -1,8 +1,7 @@
 -- What a reader has read of the tokens.
-use Rattle.std.proofs.Common.{◌≡◌, ◌+◌, ◌<◌, ◌≤◌, ◌^◌, List, [], ◌∷◌, ◌++◌, length, vec_len, refl, ap, sym, ◌∙◌, subst, arith, append-nil, length-append, Vec, Global, true, false}
-use Rattle.std.specs.Prelude.{Some, Result, Ok, Err, IfOk, option_and_then, slice_get}
+use Rattle.std.proofs.Common.{◌≡◌, ◌+◌, ◌<◌, ◌≤◌, ◌^◌, List, [], ◌∷◌, ◌++◌, length, vec_len, refl, ap, sym, ◌∙◌, subst, arith, append-nil, length-append, Vec, Global, true, false, Some, Result, Ok, Err, IfOk, option_and_then, slice_get}
 use Rattle.rx_base.proofs.Elements.{get-last}
-use Rattle.rx_rules.specs.Code.{Stmt, SetTo, New, Get, Put, Forget, Census, Print, Throw, Async, AtAsync, At, Finish, If, Repeat, Try, Block}
+use Rattle.rx_rules.proofs.Common.{Stmt, SetTo, New, Get, Put, Forget, Census, Print, Throw, Async, AtAsync, At, Finish, If, Repeat, Try, Block}
 use Rattle.rx_syntax.specs.Shape.{Shape, IsSmall, ListStands, BlockStands}
 use Rattle.rx_syntax.specs.Grammar.{spelling}
 use Rattle.rx_script.specs.Inside.Items.{Opener, ByAsync, ByAtAsync, ByAt, ByFinish, ByIf, ByRepeat, ByTry, Item, Whole, Open, Close, Else, Catch, item_words, opener_words, item_at, Mode, Outermost}

@@ -1,6 +1,5 @@
 -- Readers that look at no token past those that they take or refuse, and whose refused fronts can all be completed.
-use Rattle.std.proofs.Common.{◌≡◌, List, [], ◌∷◌, ◌++◌, refl, ap, sym, ◌∙◌, subst, append_assoc}
-use Rattle.std.specs.Prelude.{Result, Ok, Err, Option, Some, None}
+use Rattle.std.proofs.Common.{◌≡◌, List, [], ◌∷◌, ◌++◌, refl, ap, sym, ◌∙◌, subst, append_assoc, Result, Ok, Err, Option, Some, None}
 use Rattle.rx_syntax.specs.declared.token.Token.{Token}
 use Rattle.rx_script.specs.Inside.Readers.{Reader, after, then, done, picked, choose}
 

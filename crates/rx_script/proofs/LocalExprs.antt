@@ -1,7 +1,6 @@
 -- The reader of expressions is local.
-use Rattle.std.proofs.Common.{◌≡◌, List, [], ◌∷◌, ◌++◌, pos, refl}
-use Rattle.std.specs.Prelude.{Ok}
-use Rattle.rx_rules.specs.Code.{Add, Expr, Num, Name, Here, Bin}
+use Rattle.std.proofs.Common.{◌≡◌, List, [], ◌∷◌, ◌++◌, pos, refl, Ok}
+use Rattle.rx_rules.proofs.Common.{Add, Expr, Num, Name, Here, Bin}
 use Rattle.rx_syntax.specs.declared.token.Token.{Token}
 use Rattle.rx_syntax.specs.declared.token.Token.TheVariants.{Key, Called, Number, Oper, Mark}
 use Rattle.rx_syntax.specs.declared.token.Keyword.TheVariants.{Here as KHere}

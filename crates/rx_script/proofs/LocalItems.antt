@@ -2,7 +2,7 @@
 use Rattle.std.proofs.Common.{◌≡◌, ℕ, pos, Bool, true, false, refl, ap}
 use Rattle.rx_syntax.specs.declared.token.Token.{Token}
 use Rattle.rx_syntax.specs.declared.token.Token.TheVariants.{Key, Called, Number, Mark}
-use Rattle.rx_rules.specs.Code.{Expr, SetTo, New, Get, Put, Forget, Census, Print, Throw}
+use Rattle.rx_rules.proofs.Common.{Expr, SetTo, New, Get, Put, Forget, Census, Print, Throw}
 use Rattle.rx_syntax.specs.Grammar.{may_hold, may_turn}
 use Rattle.rx_syntax.specs.declared.token.Keyword.TheVariants.{Set as KSet, New as KNew, Get as KGet, Put as KPut, Forget as KForget, Census as KCensus, Print as KPrint, Throw as KThrow, Async as KAsync, At as KAt, Finish as KFinish, If as KIf, Else as KElse, Repeat as KRepeat, Try as KTry, Catch as KCatch, Dead as KDead}
 use Rattle.rx_syntax.specs.declared.token.Sign.TheVariants.{OpenBrace as LBrace, CloseBrace as RBrace, OpenSquare as LSquare, CloseSquare as RSquare, Equals, Semicolon}

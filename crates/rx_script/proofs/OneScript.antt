@@ -1,7 +1,7 @@
 -- Bytes are one script at most, or have one place where they go wrong, and what is written is the script that it was written from.
 use Rattle.std.proofs.Common.{◌≡◌, ℕ, ◌-◌, List, [], length, Some, slice_get, sym, ap, subst, ◌∙◌, arith}
 use Rattle.std.proofs.lemmas.Option.{same_Some}
-use Rattle.rx_rules.specs.Code.{Block}
+use Rattle.rx_rules.proofs.Common.{Block}
 use Rattle.rx_syntax.specs.declared.token.Token.{Token}
 use Rattle.rx_syntax.specs.Scans.{Scans}
 use Rattle.rx_syntax.specs.Grammar.{spellings, IsScriptOf}

@@ -1,9 +1,8 @@
 -- One token more of an expression.
-use Rattle.std.proofs.Common.{◌≡◌, ℤ, List, [], ◌∷◌, ◌++◌, length, refl, ap, sym, ◌∙◌, subst}
-use Rattle.std.specs.Prelude.{Result}
+use Rattle.std.proofs.Common.{◌≡◌, ℤ, List, [], ◌∷◌, ◌++◌, length, refl, ap, sym, ◌∙◌, subst, Result}
 use Rattle.std.proofs.lemmas.List.{same_from_push}
 use Rattle.rx_base.proofs.Elements.{push-not-nil, get-last}
-use Rattle.rx_rules.specs.Code.{Expr, Num, Name, Here, Bin}
+use Rattle.rx_rules.proofs.Common.{Expr, Num, Name, Here, Bin}
 use Rattle.rx_syntax.specs.Shape.{ExprStands, op_of}
 use Rattle.rx_script.specs.Inside.Exprs.{Pair, First, Second, whole}
 use Rattle.rx_script.specs.Inside.Pieces.{Grows}

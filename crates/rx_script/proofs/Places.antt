@@ -1,9 +1,8 @@
 -- The first token that can't go on: the tokens before it begin a script, and no script begins with them and it.
-use Rattle.std.proofs.Common.{◌≡◌, List, [], ◌∷◌, ◌++◌, false, refl, ap, sym, ◌∙◌, subst, append_assoc, append-nil, ◌⊎◌, inl, inr}
-use Rattle.std.specs.Prelude.{Some, Result, Ok, Err, option_and_then}
+use Rattle.std.proofs.Common.{◌≡◌, List, [], ◌∷◌, ◌++◌, false, refl, ap, sym, ◌∙◌, subst, append_assoc, append-nil, ◌⊎◌, inl, inr, Some, Result, Ok, Err, option_and_then}
 use Rattle.std.proofs.lemmas.Option.{same_Some}
 use Rattle.rx_syntax.specs.declared.token.Token.{Token}
-use Rattle.rx_rules.specs.Code.{Block, Nothing, Async, AtAsync, At, Finish, If, Repeat, Try}
+use Rattle.rx_rules.proofs.Common.{Block, Nothing, Async, AtAsync, At, Finish, If, Repeat, Try}
 use Rattle.rx_syntax.specs.Grammar.{spellings, AllInRange}
 use Rattle.rx_script.specs.Inside.Items.{ByAsync, ByAtAsync, ByAt, ByFinish, ByIf, ByRepeat, ByTry, Item, Whole, Open, Close, Else, Catch, IsItem, item_words, Outermost, MayStand, item_at}
 use Rattle.rx_script.specs.Places.{BeginsScript, IsPlace}

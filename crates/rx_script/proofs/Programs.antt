@@ -1,7 +1,6 @@
 -- What is known of the script that bytes are.
-use Rattle.std.proofs.Common.{◌≡◌, ℕ, List, Some, None, ap, ◌∙◌}
-use Rattle.std.specs.Prelude.{Option}
-use Rattle.rx_rules.specs.Code.{Block}
+use Rattle.std.proofs.Common.{◌≡◌, ℕ, List, Some, None, ap, ◌∙◌, Option}
+use Rattle.rx_rules.proofs.Common.{Block}
 use Rattle.rx_syntax.specs.Grammar.{IsScript}
 use Rattle.rx_script.specs.Faults.{OneScript, NoFault}
 use Rattle.rx_check.specs.Rules.{verdict}

@@ -1,7 +1,6 @@
 -- Answers about what is left, moved along equations.
-use Rattle.std.proofs.Common.{◌≡◌, List, sym, ap, subst}
-use Rattle.std.specs.Prelude.{Result, Ok, Err, IfOk}
-use Rattle.rx_rules.specs.Code.{Expr}
+use Rattle.std.proofs.Common.{◌≡◌, List, sym, ap, subst, Result, Ok, Err, IfOk}
+use Rattle.rx_rules.proofs.Common.{Expr}
 use Rattle.rx_syntax.specs.Shape.{ExprStands}
 use Rattle.rx_script.specs.Inside.Readers.{Reader, after, then}
 use Rattle.rx_script.specs.Inside.Exprs.{expr}

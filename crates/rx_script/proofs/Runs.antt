@@ -1,10 +1,9 @@
 -- What a run over items says of the trees that the items spell, and of the tokens.
-use Rattle.std.proofs.Common.{◌≡◌, List, [], ◌∷◌, ◌++◌, refl, ap, sym, ◌∙◌, append_assoc, append-nil}
-use Rattle.std.specs.Prelude.{Option, Some, None, option_and_then}
+use Rattle.std.proofs.Common.{◌≡◌, List, [], ◌∷◌, ◌++◌, refl, ap, sym, ◌∙◌, append_assoc, append-nil, Option, Some, None, option_and_then}
 use Rattle.rx_syntax.specs.declared.token.Token.{Token}
 use Rattle.rx_syntax.specs.declared.token.Token.TheVariants.{Mark}
 use Rattle.rx_syntax.specs.declared.token.Sign.TheVariants.{CloseBrace as RBrace}
-use Rattle.rx_rules.specs.Code.{Stmt, Block, Nothing, Then, SetTo, New, Get, Put, Forget, Census, Print, Throw, Async, AtAsync, At, Finish, If, Repeat, Try}
+use Rattle.rx_rules.proofs.Common.{Stmt, Block, Nothing, Then, SetTo, New, Get, Put, Forget, Census, Print, Throw, Async, AtAsync, At, Finish, If, Repeat, Try}
 use Rattle.rx_syntax.specs.Grammar.{spelling, spellings}
 use Rattle.rx_script.specs.Inside.Items.{Opener, ByAsync, ByAtAsync, ByAt, ByFinish, ByIf, ByRepeat, ByTry, Item, Whole, Open, Close, Else, Catch, item_words, opener_words}
 use Rattle.rx_script.specs.Inside.Machine.{added, Frame, Fore, Other, Handler, BlocksRead, free, step, items_run}

@@ -1,6 +1,5 @@
 -- What has been read of the tokens says what the bytes are.
-use Rattle.std.proofs.Common.{◌≡◌, ℕ, ◌-◌, ◌<◌, List, length, ap, sym, ◌∙◌, subst, arith}
-use Rattle.std.specs.Prelude.{Some, Result, Ok, Err, slice_get}
+use Rattle.std.proofs.Common.{◌≡◌, ℕ, ◌-◌, ◌<◌, List, length, ap, sym, ◌∙◌, subst, arith, Some, Result, Ok, Err, slice_get}
 use Rattle.rx_syntax.specs.Scans.{Scans}
 use Rattle.rx_script.specs.Faults.{IsFaultAt}
 use Rattle.rx_syntax.specs.Tokens.{AreNames}

@@ -1,21 +1,14 @@
 -- A history of allowed entries folds to a tree that can be reached, and its dead are those that the history tells.
-use Rattle.std.specs.Prelude.{◌≡◌, ℕ, zero, suc, ◌+◌, ◌<◌, ◌≤◌, ◌==◌, cond, Bool, true, false, length, List, [], ◌∷◌, ◌++◌, not, filter, replicate, slice_index_or, slice_set, Option, Some, None, All, refl}
-use Rattle.std.proofs.Common.{sym, subst, ap, ◌∙◌, arith}
+use Rattle.std.proofs.Common.{◌≡◌, ℕ, zero, suc, ◌+◌, ◌<◌, ◌≤◌, ◌==◌, cond, Bool, true, false, length, List, [], ◌∷◌, ◌++◌, not, filter, replicate, slice_index_or, slice_set, Option, Some, None, All, refl, sym, subst, ap, ◌∙◌, arith}
 use Rattle.std.proofs.lemmas.Bool.{eqb-true, eqb-false}
 use Rattle.std.proofs.lemmas.List.{get_or-set_same, get_or-set_other}
 use Rattle.std.proofs.lemmas.List.Elements.{All-set}
-use Rattle.rx_base.specs.declared.ids.PlaceId.{PlaceId}
-use Rattle.rx_base.specs.declared.ids.TaskId.{TaskId}
-use Rattle.rx_base.specs.declared.values.Fault.{Fault}
+use Rattle.rx_rules.proofs.Common.{PlaceId, TaskId, Fault, Tree, is_task, task_of, death_of, Allowed, made, made_act, after_end, change_scope, AllAllowed, opening, fold_from, Reached, IsOlder, opens, acts, dies, joins, death_number}
 use Rattle.rx_rules.specs.declared.entries.Act.TheVariants.{Open, At as Calls, Spawn, Arrive, Wait, Release, End, Print, Census}
 use Rattle.rx_rules.specs.declared.entries.Entry.{Entry}
 use Rattle.rx_rules.specs.declared.entries.Entry.TheVariants.{Step, Root, Death, Join}
 use Rattle.rx_rules.specs.declared.entries.Act.{Act}
-use Rattle.rx_rules.specs.Tree.{Tree, is_task, task_of, death_of}
-use Rattle.rx_rules.specs.Entries.{Allowed, made, made_act, after_end, change_scope}
-use Rattle.rx_rules.specs.Fold.{AllAllowed, opening, fold_from}
-use Rattle.rx_rules.specs.Reached.{Reached, IsOlder, opens, acts, ends, dies, joins}
-use Rattle.rx_rules.specs.Run.{death_number}
+use Rattle.rx_rules.specs.Reached.{ends}
 use Rattle.rx_sound.specs.Sound.{Sound}
 use Rattle.rx_sound.specs.Histories.{FoldReached, DeadAsTold}
 use Rattle.rx_sound.proofs.Reached.{sound}

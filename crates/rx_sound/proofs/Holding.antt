@@ -1,10 +1,6 @@
 -- Whether a term waits, after each kind of step.
-use Rattle.std.specs.Prelude.{◌≡◌, ℕ, suc, ℤ, Bool, true, false, cond, ◌==◌, nat_le, List, Option, Some, None, Result, Ok, Err, refl}
-use Rattle.rx_base.specs.declared.values.Fault.{Fault}
-use Rattle.rx_base.specs.declared.values.Fault.TheVariants.{Thrown, WrongPlace}
-use Rattle.rx_base.specs.declared.values.Value.TheVariants.{Num as Number}
-use Rattle.rx_rules.specs.Code.{Block, Nothing, Then, Stmt, SetTo, New, Get, Put, Forget, Print, Census, Throw, Async, AtAsync, At, Finish, If, Repeat, Try}
-use Rattle.rx_rules.specs.Terms.{Vars, Term, Empty, Run, Raise, Turns, Trying, Body, Held, items, items_from, at, Does, Local, Makes, Gets, Puts, Forgets, Opens, Calls, Spawns, Waits, Releases, Prints, Counts, Done, raise, bound, value_of, ref_in, eval, target_of, is_zero, catches, with_number, with_place, stmt_does, within, does}
+use Rattle.std.proofs.Common.{◌≡◌, ℕ, suc, ℤ, Bool, true, false, cond, ◌==◌, nat_le, List, Option, Some, None, Result, Ok, Err, refl}
+use Rattle.rx_rules.proofs.Common.{Fault, Thrown, WrongPlace, Number, Block, Nothing, Then, Stmt, SetTo, New, Get, Put, Forget, Print, Census, Throw, Async, AtAsync, At, Finish, If, Repeat, Try, Vars, Term, Empty, Run, Raise, Turns, Trying, Body, Held, items, items_from, at, Does, Local, Makes, Gets, Puts, Forgets, Opens, Calls, Spawns, Waits, Releases, Prints, Counts, Done, raise, bound, value_of, ref_in, eval, target_of, is_zero, catches, with_number, with_place, stmt_does, within, does}
 use Rattle.rx_sound.specs.Held.{is_held, Unheld, HeldInFront}
 
 -- where no task waits, none waits at the front

@@ -1,19 +1,14 @@
 -- A new scope keeps a tree sound, and births hang under scopes that stand.
-use Rattle.std.specs.Prelude.{◌≡◌, ℕ, ◌<◌, ◌≤◌, true, false, cond, ◌||◌, ◌&&◌, ◌==◌, not, List, [], ◌∷◌, Option, Some, None, refl}
+use Rattle.std.proofs.Common.{◌≡◌, ℕ, ◌<◌, ◌≤◌, true, false, cond, ◌||◌, ◌&&◌, ◌==◌, not, List, [], ◌∷◌, Option, Some, None, refl, sym, ap, ◌∙◌, subst, arith}
 use Rattle.std.specs.List.{find, list_any}
-use Rattle.std.proofs.Common.{sym, ap, ◌∙◌, subst, arith}
 use Rattle.std.proofs.Math.Bool.{and-true}
 use Rattle.std.proofs.lemmas.Bool.{eqb-true, eq-eqb, ne_eqb, true≢false, or_right, or_parts, or_from, and_left}
-use Rattle.rx_base.specs.declared.ids.PlaceId.{PlaceId}
-use Rattle.rx_base.specs.declared.ids.TaskId.{TaskId}
-use Rattle.rx_base.specs.declared.ids.ScopeId.{ScopeId}
+use Rattle.rx_rules.proofs.Common.{PlaceId, TaskId, ScopeId, Tree, is_task, task_of, is_scope, wants, opened_by, own_scope, inner, is_finish, chain_in, governing_in, the_root, opened, home_for, place_number}
 use Rattle.rx_rules.proofs.Lookups.{number-of}
 use Rattle.rx_rules.specs.declared.tasks.Where.TheVariants.{At}
 use Rattle.rx_rules.specs.declared.tasks.Task.{Task}
 use Rattle.rx_rules.specs.declared.tasks.Scope.{Scope}
 use Rattle.rx_rules.specs.declared.tasks.Kind.{Kind}
-use Rattle.rx_rules.specs.Tree.{Tree, is_task, task_of, is_scope, wants, opened_by, own_scope, inner, is_finish, chain_in, governing_in, the_root}
-use Rattle.rx_rules.specs.Entries.{opened, home_for, place_number}
 use Rattle.rx_sound.specs.Chains.{meets, Falls, HasOpener, Opened}
 use Rattle.rx_sound.specs.Sound.{TaskFits, Sound}
 use Rattle.rx_sound.proofs.Changes.{each_more}

@@ -1,12 +1,9 @@
 -- Acts of other tasks leave a task enabled, or not, as it was.
-use Rattle.std.specs.Prelude.{◌≡◌, ◌≢◌, ℕ, ◌<◌, Bool, true, false, cond, not, ◌||◌, ◌&&◌, ◌==◌, List, [], ◌∷◌, ◌++◌, filter, Option, Some, None, is_none, is_some, refl}
+use Rattle.std.proofs.Common.{◌≡◌, ◌≢◌, ℕ, ◌<◌, Bool, true, false, cond, not, ◌||◌, ◌&&◌, ◌==◌, List, [], ◌∷◌, ◌++◌, filter, Option, Some, None, is_none, is_some, refl, sym, ap, ◌∙◌, subst, arith}
 use Rattle.std.specs.List.{find, list_any}
-use Rattle.std.proofs.Common.{sym, ap, ◌∙◌, subst, arith}
 use Rattle.std.proofs.Math.Bool.{and-true}
 use Rattle.std.proofs.lemmas.Bool.{eqb-true, eq-eqb, ne_eqb, true≢false, or_right, or_parts, and_right, and_parts, false_from_ne_true, not-true}
-use Rattle.rx_base.specs.declared.ids.TaskId.{TaskId}
-use Rattle.rx_base.specs.declared.ids.ScopeId.{ScopeId}
-use Rattle.rx_base.specs.declared.values.Fault.{Fault}
+use Rattle.rx_rules.proofs.Common.{TaskId, ScopeId, Fault, Tree, is_task, task_of, is_scope, wants, opened_by, own_scope, on_chain, is_under, quiet, inner, is_finish, chain_in, governing_in, the_root, change_first, change_scope, waiting, resumed, without, born, opened, home_for, after_end, AllowedAct, made_act, is_enabled, Reached}
 use Rattle.rx_base.proofs.SameIds.{task-is}
 use Rattle.rx_rules.specs.declared.tasks.Where.TheVariants.{At}
 use Rattle.rx_rules.specs.declared.tasks.Blow.{Blow}
@@ -16,10 +13,6 @@ use Rattle.rx_rules.specs.declared.tasks.Kind.{Kind}
 use Rattle.rx_rules.specs.declared.tasks.Kind.TheVariants.{Finish, Call}
 use Rattle.rx_rules.specs.declared.entries.Act.{Act}
 use Rattle.rx_rules.specs.declared.entries.Act.TheVariants.{Open, At as Calls, Spawn, Arrive, Wait, Release, End, Print, Census}
-use Rattle.rx_rules.specs.Tree.{Tree, is_task, task_of, is_scope, wants, opened_by, own_scope, on_chain, is_under, quiet, inner, is_finish, chain_in, governing_in, the_root}
-use Rattle.rx_rules.specs.Entries.{change_first, change_scope, waiting, resumed, without, born, opened, home_for, after_end, AllowedAct, made_act}
-use Rattle.rx_rules.specs.Picked.{is_enabled}
-use Rattle.rx_rules.specs.Reached.{Reached}
 use Rattle.rx_rules.proofs.Lookups.{number-of}
 use Rattle.rx_sound.specs.Chains.{meets, Falls}
 use Rattle.rx_sound.specs.Sound.{Each, TasksFall, TaskFits, Sound}

@@ -1,12 +1,8 @@
 -- Tasks are younger than the openers of the scopes above them, and who waits has a scope.
-use Rattle.std.specs.Prelude.{◌≡◌, ◌≢◌, ℕ, ◌<◌, ◌≤◌, Bool, true, false, cond, not, ◌||◌, ◌&&◌, ◌==◌, List, [], ◌∷◌, ◌++◌, filter, Option, Some, None, is_none, refl}
+use Rattle.std.proofs.Common.{◌≡◌, ◌≢◌, ℕ, ◌<◌, ◌≤◌, Bool, true, false, cond, not, ◌||◌, ◌&&◌, ◌==◌, List, [], ◌∷◌, ◌++◌, filter, Option, Some, None, is_none, refl, sym, ap, ◌∙◌, subst, arith}
 use Rattle.std.specs.List.{find, list_any}
-use Rattle.std.proofs.Common.{sym, ap, ◌∙◌, subst, arith}
 use Rattle.std.proofs.lemmas.Bool.{eqb-true, eq-eqb, ne_eqb, true≢false, or_right, and_parts, and_left, true_from_ne_false, not-true}
-use Rattle.rx_base.specs.declared.ids.PlaceId.{PlaceId}
-use Rattle.rx_base.specs.declared.ids.TaskId.{TaskId}
-use Rattle.rx_base.specs.declared.ids.ScopeId.{ScopeId}
-use Rattle.rx_base.specs.declared.values.Fault.{Fault}
+use Rattle.rx_rules.proofs.Common.{PlaceId, TaskId, ScopeId, Fault, Tree, is_task, task_of, is_scope, opened_by, own_scope, on_chain, is_under, quiet, the_root, change_first, waiting, resumed, hit, is_hit, strike, without, born, opened, home_for, after_end, AllowedAct, made_act, Reached, opens, acts, dies, joins}
 use Rattle.rx_base.proofs.Elements.{find-passes}
 use Rattle.rx_rules.proofs.Lookups.{number-of}
 use Rattle.rx_rules.specs.declared.tasks.Where.TheVariants.{At}
@@ -17,9 +13,7 @@ use Rattle.rx_rules.specs.declared.tasks.Kind.{Kind}
 use Rattle.rx_rules.specs.declared.tasks.Kind.TheVariants.{Finish, Call}
 use Rattle.rx_rules.specs.declared.entries.Act.{Act}
 use Rattle.rx_rules.specs.declared.entries.Act.TheVariants.{Open, At as Calls, Spawn, Arrive, Wait, Release, End, Print, Census}
-use Rattle.rx_rules.specs.Tree.{Tree, is_task, task_of, is_scope, opened_by, own_scope, on_chain, is_under, quiet, the_root}
-use Rattle.rx_rules.specs.Entries.{change_first, waiting, resumed, hit, is_hit, strike, without, born, opened, home_for, after_end, AllowedAct, made_act}
-use Rattle.rx_rules.specs.Reached.{Reached, opens, acts, ends, dies, joins}
+use Rattle.rx_rules.specs.Reached.{ends}
 use Rattle.rx_sound.specs.Chains.{meets, HasOpener, Opened, Falls}
 use Rattle.rx_sound.specs.Sound.{Each, TasksFall, TaskFits, Sound}
 use Rattle.rx_sound.specs.Owning.{WaiterOwns, OpenersOlder}

@@ -1,7 +1,6 @@
 -- A statement that comes before another in the order of statements comes before it number by number.
-use Rattle.std.specs.Prelude.{◌≡◌, ℕ, true, List}
-use Rattle.rx_rules.specs.Code.{Block}
-use Rattle.rx_rules.specs.Order.{comes_before}
+use Rattle.std.proofs.Common.{◌≡◌, ℕ, true, List}
+use Rattle.rx_rules.proofs.Common.{Block, comes_before}
 use Rattle.rx_laws.proofs.Paths.{below-comes, comes_before-below}
 use Rattle.rx_span.specs.Paths.{Comes}
 

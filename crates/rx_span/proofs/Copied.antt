@@ -1,6 +1,5 @@
 -- Copied paths, one more after the others, and cut apart again.
-use Rattle.std.proofs.Common.{◌≡◌, ◌∙◌, ℕ, ◌≤◌, ◌<◌, ◌+◌, ◌-◌, true, List, [], ◌∷◌, ◌++◌, length, map, take, drop, ap, sym, subst, refl, arith, append-nil, append_assoc}
-use Rattle.std.specs.Prelude.{reverse, slice_index_or}
+use Rattle.std.proofs.Common.{◌≡◌, ◌∙◌, ℕ, ◌≤◌, ◌<◌, ◌+◌, ◌-◌, true, List, [], ◌∷◌, ◌++◌, length, map, take, drop, ap, sym, subst, refl, arith, append-nil, append_assoc, reverse, slice_index_or}
 use Rattle.std.proofs.Transfers.{drop-appended}
 use Rattle.std.proofs.lemmas.List.{map-append, length-append, length-map, length-drop, reverse-append, take_all, take_at, drop_at}
 use Rattle.rx_span.specs.declared.paths.Copies.{Copies}

@@ -1,9 +1,8 @@
 -- One path is passed.
-use Rattle.std.specs.Prelude.{◌≡◌, ◌⊎◌, ℕ, zero, suc, ◌+◌, ◌<◌, ◌≤◌, ◌==◌, Bool, true, nat_lt, List, [], ◌∷◌, ◌++◌, length, map, filter, drop, slice_get, Some, option_map, refl}
-use Rattle.std.proofs.Common.{ap, sym, subst, ◌∙◌, arith, inl, inr, add-one, get_or, ⊎_elim}
+use Rattle.std.proofs.Common.{◌≡◌, ◌⊎◌, ℕ, zero, suc, ◌+◌, ◌<◌, ◌≤◌, ◌==◌, Bool, true, nat_lt, List, [], ◌∷◌, ◌++◌, length, map, filter, drop, slice_get, Some, option_map, refl, ap, sym, subst, ◌∙◌, arith, inl, inr, add-one, get_or, ⊎_elim}
 use Rattle.std.proofs.lemmas.Bool.{cond_both, cases_lt, eq-eqb}
 use Rattle.std.proofs.lemmas.Option.{slice_get-get_or, slice_get-map, get_or_from_slice_get}
-use Rattle.rx_rules.specs.Code.{Block}
+use Rattle.rx_rules.proofs.Common.{Block}
 use Rattle.rx_order.specs.declared.marks.Mark.{Mark}
 use Rattle.rx_order.specs.Marks.{marks_of}
 use Rattle.rx_span.specs.declared.chains.Kept.{Kept}

@@ -1,12 +1,10 @@
 -- How far paths go together, where they come one after the other.
-use Rattle.std.specs.Prelude.{◌≡◌, ◌⊎◌, ℕ, zero, suc, ◌+◌, ◌<◌, ◌≤◌, min, true, cond, ◌==◌, nat_lt, List, [], ◌∷◌, length, drop, Some, slice_get, slice_index, refl}
-use Rattle.std.proofs.Common.{ap, sym, subst, ◌∙◌, arith, inl, inr, ⊎_elim}
+use Rattle.std.proofs.Common.{◌≡◌, ◌⊎◌, ℕ, zero, suc, ◌+◌, ◌<◌, ◌≤◌, min, true, cond, ◌==◌, nat_lt, List, [], ◌∷◌, length, drop, Some, slice_get, slice_index, refl, ap, sym, subst, ◌∙◌, arith, inl, inr, ⊎_elim}
 use Rattle.std.proofs.lemmas.Bool.{eq-eqb, ne_eqb, ltb-true, lt-ltb, le-ltb, cases_eq, cond_both, true≢false, false_from_ne_true, cases_order}
 use Rattle.std.proofs.lemmas.Bool.Decides.{nat_tests}
 use Rattle.std.proofs.lemmas.List.{drop_all}
 use Rattle.std.proofs.lemmas.Option.{same_Some}
-use Rattle.rx_rules.specs.Code.{Block, Stmt, Async, AtAsync, At, Finish, If, Repeat, Try, Nothing, Then}
-use Rattle.rx_rules.specs.Order.{comes_before}
+use Rattle.rx_rules.proofs.Common.{Block, Stmt, Async, AtAsync, At, Finish, If, Repeat, Try, Nothing, Then, comes_before}
 use Rattle.rx_laws.proofs.Paths.{Starts, comes_before-below, starts-not_below}
 use Rattle.rx_order.specs.Marks.{marks, marks_in, marks_of}
 use Rattle.rx_span.specs.Paths.{Names, NamesIn, IsPath, Comes}

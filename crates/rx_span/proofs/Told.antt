@@ -1,26 +1,16 @@
 -- A run tells paths of its script alone.
-use Rattle.std.specs.Prelude.{◌≡◌, ℕ, zero, suc, ◌+◌, ◌<◌, ◌≤◌, ◌==◌, Bool, true, false, List, [], ◌∷◌, ◌++◌, All, Option, Some, None, slice_get, refl}
+use Rattle.std.proofs.Common.{◌≡◌, ℕ, zero, suc, ◌+◌, ◌<◌, ◌≤◌, ◌==◌, Bool, true, false, List, [], ◌∷◌, ◌++◌, All, Option, Some, None, slice_get, refl, sym, subst, arith, ⊎_elim}
 use Rattle.std.specs.List.{filter_map, cons_option}
-use Rattle.std.proofs.Common.{sym, subst, arith, ⊎_elim}
 use Rattle.std.proofs.lemmas.Bool.{eq-eqb, cond_both, cases_lt}
 use Rattle.std.proofs.lemmas.Option.{same_Some}
-use Rattle.rx_base.specs.declared.ids.PlaceId.{PlaceId}
-use Rattle.rx_base.specs.declared.ids.TaskId.{TaskId}
+use Rattle.rx_rules.proofs.Common.{PlaceId, TaskId, Stmt, Async, AtAsync, At, Finish, If, Repeat, Try, Block, Nothing, Then, Term, Empty, Run, Raise, Turns, Trying, Body, Held, Vars, Does, Answer, Gives, Fine, Fails, begins, answered, child, items, no_vars, after_it, Opens, Calls, Spawns, Waits, Releases, Prints, Counts, Plays, asks, ends, stops, Begins, EachPlays, StartsSo, begun, brought, started_by, moves_from, birth_of, travels, cell_of, journal_at, told, own_path, Tree, AllowedAct, made, opening, AllAllowed, births_of, Reached, IsOlder, opens}
 use Rattle.rx_rules.specs.declared.events.Cell.{Cell}
 use Rattle.rx_rules.specs.declared.events.PlaceEvent.{PlaceEvent}
 use Rattle.rx_rules.specs.declared.entries.Act.{Act}
 use Rattle.rx_rules.specs.declared.entries.Act.TheVariants.{Open, At as Calling, Spawn, Arrive, Wait, Release, End, Print as Printed, Census as Counted}
 use Rattle.rx_rules.specs.declared.entries.Entry.{Entry}
 use Rattle.rx_rules.specs.declared.entries.Entry.TheVariants.{Step, Root, Death, Join}
-use Rattle.rx_rules.specs.Code.{Stmt, Async, AtAsync, At, Finish, If, Repeat, Try, Block, Nothing, Then}
-use Rattle.rx_rules.specs.Terms.{Term, Empty, Run, Raise, Turns, Trying, Body, Held, Vars, Does, Answer, Gives, Fine, Fails, begins, answered, child, items, no_vars, after_it}
-use Rattle.rx_rules.specs.Terms.{Opens, Calls, Spawns, Waits, Releases, Prints, Counts}
-use Rattle.rx_rules.specs.Plays.{Plays, local, stores, asks, ends, stops, Begins, EachPlays, Fits, StartsSo, begun, brought, started_by, moves_from, birth_of, travels, cell_of, journal_at}
-use Rattle.rx_rules.specs.Order.{told, own_path}
-use Rattle.rx_rules.specs.Tree.{Tree}
-use Rattle.rx_rules.specs.Entries.{AllowedAct, made}
-use Rattle.rx_rules.specs.Fold.{opening, AllAllowed, births_of}
-use Rattle.rx_rules.specs.Reached.{Reached, IsOlder, opens}
+use Rattle.rx_rules.specs.Plays.{local, stores, Fits}
 use Rattle.rx_rules.proofs.Numbers.{next-made}
 use Rattle.rx_sound.proofs.Reach.{task_below}
 use Rattle.rx_sound.proofs.Reached.{sound}

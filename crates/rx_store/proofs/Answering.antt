@@ -1,7 +1,6 @@
 -- The answer of a call, from the event that tells it.
-use Rattle.std.proofs.Common.{◌≡◌, ℕ, ℤ, Bool, true, false, cond, sym, subst, ap, ◌∙◌}
-use Rattle.std.specs.Prelude.{Err}
-use Rattle.rx_base.specs.declared.ids.GlobalRef.{GlobalRef}
+use Rattle.std.proofs.Common.{◌≡◌, ℕ, ℤ, Bool, true, false, cond, sym, subst, ap, ◌∙◌, Err}
+use Rattle.rx_rules.proofs.Common.{GlobalRef}
 use Rattle.rx_rules.specs.declared.events.Cell.{Cell}
 use Rattle.rx_rules.specs.declared.events.Cell.TheVariants.{Make, MakeFull, Get, Put, Forget, GetRefused, PutRefused, ForgetStale}
 use Rattle.rx_store.specs.declared.calls.Mark.{Mark}

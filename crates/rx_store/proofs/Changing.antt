@@ -1,12 +1,10 @@
 -- The table and the heap after a block is made, written and forgotten.
-use Rattle.std.proofs.Common.{◌≡◌, ◌≢◌, ℕ, ◌+◌, ◌-◌, ◌<◌, ◌≤◌, inl, inr, Bool, true, false, cond, ℤ, pos, List, [], ◌∷◌, ◌++◌, map, filter, length, get_or, set, take, drop, replicate, arith, refl, subst, sym, ◌∙◌, ap, get_or-set_other, get_or-set_same, length-set, get_or-take, get_or-drop, length-take-le, length-append, length-take, length-drop}
-use Rattle.std.specs.Prelude.{Option, Some, None, slice_index, not}
+use Rattle.std.proofs.Common.{◌≡◌, ◌≢◌, ℕ, ◌+◌, ◌-◌, ◌<◌, ◌≤◌, inl, inr, Bool, true, false, cond, ℤ, pos, List, [], ◌∷◌, ◌++◌, map, filter, length, get_or, set, take, drop, replicate, arith, refl, subst, sym, ◌∙◌, ap, get_or-set_other, get_or-set_same, length-set, get_or-take, get_or-drop, length-take-le, length-append, length-take, length-drop, Option, Some, None, slice_index, not}
 use Rattle.std.proofs.lemmas.Bool.{cases_lt, cases_eq, and_parts, and_from, eqb-true, eq-eqb, cases_Bool}
 use Rattle.std.proofs.lemmas.List.{get_or-append_right, get_or_append_left, get_or-replicate, length-replicate}
 use Rattle.std.proofs.lemmas.Option.{same_Some, none-some}
-use Rattle.rx_base.specs.declared.ids.GlobalRef.{GlobalRef}
+use Rattle.rx_rules.proofs.Common.{GlobalRef, Live, is_block, set_word}
 use Rattle.rx_heap.specs.Region.{Region, IsLiveExtent, IsLaid, IsFree}
-use Rattle.rx_rules.specs.Store.{Live, is_block, set_word}
 use Rattle.rx_store.specs.declared.table.Held.{Held}
 use Rattle.rx_store.specs.Table.{slot_at, extent_of, Backs, BacksAll, Lists, TableHolds, AllLive}
 use Rattle.rx_store.proofs.Giving.{slot_within}

@@ -1,12 +1,10 @@
 -- The table and the heap stand for the blocks of the law, after each event.
-use Rattle.std.proofs.Common.{◌≡◌, ℕ, ◌+◌, ◌<◌, ◌≤◌, inl, inr, true, false, cond, List, [], ◌∷◌, length, arith, refl, subst, sym, ◌∙◌, ap, leb}
-use Rattle.std.specs.Prelude.{Option, Some, None, slice_index}
+use Rattle.std.proofs.Common.{◌≡◌, ℕ, ◌+◌, ◌<◌, ◌≤◌, inl, inr, true, false, cond, List, [], ◌∷◌, length, arith, refl, subst, sym, ◌∙◌, ap, leb, Option, Some, None, slice_index}
 use Rattle.std.specs.List.{find, list_all}
 use Rattle.std.proofs.lemmas.Bool.{cases_lt, and_parts, and_from, eqb-true, eq-eqb, leb-true, le-leb, or_cases, or_left, cases_Bool, or_right, false_from_ne_true}
 use Rattle.std.proofs.lemmas.Option.{same_Some}
-use Rattle.rx_base.specs.declared.ids.GlobalRef.{GlobalRef}
+use Rattle.rx_rules.proofs.Common.{GlobalRef, Live, State, is_block, block_of, is_apart, fits}
 use Rattle.rx_heap.specs.Region.{Region, Extent, IsLiveExtent, IsFree, IsLeastFree}
-use Rattle.rx_rules.specs.Store.{Live, State, is_block, block_of, is_apart, fits}
 use Rattle.rx_rules.specs.Store as law
 use Rattle.rx_store.specs.declared.table.Held.{Held}
 use Rattle.rx_store.specs.Table.{slot_at, Backs, BacksAll, Lists, TableHolds, AllLive}

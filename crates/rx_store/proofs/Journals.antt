@@ -1,6 +1,5 @@
 -- What the journals of stores tell.
-use Rattle.std.specs.Prelude.{length, ◌≡◌, ℕ, suc, List, [], ◌∷◌, ◌++◌, map, reverse, refl}
-use Rattle.std.proofs.Common.{ap, ◌∙◌, sym, arith}
+use Rattle.std.proofs.Common.{length, ◌≡◌, ℕ, suc, List, [], ◌∷◌, ◌++◌, map, reverse, refl, ap, ◌∙◌, sym, arith}
 use Rattle.std.proofs.lemmas.List.{reverse-append, map-append, append_assoc, append-nil}
 use Rattle.rx_rules.specs.declared.events.PlaceEvent.{PlaceEvent}
 use Rattle.rx_history.specs.Events.{Events, AllEvents, events_of}

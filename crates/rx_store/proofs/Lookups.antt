@@ -1,11 +1,9 @@
 -- What the law says of a call, from what the code has found.
-use Rattle.std.proofs.Common.{◌≡◌, ℕ, suc, zero, ◌+◌, ◌<◌, Bool, true, false, ℤ, pos, List, [], ◌∷◌, length, get_or, arith, rules, subst, sym, ◌∙◌, ap, tests}
-use Rattle.std.specs.Prelude.{Option, Some, None, slice_get, int_le, int_lt, ◌&&◌}
+use Rattle.std.proofs.Common.{◌≡◌, ℕ, suc, zero, ◌+◌, ◌<◌, Bool, true, false, ℤ, pos, List, [], ◌∷◌, length, get_or, arith, rules, subst, sym, ◌∙◌, ap, tests, Option, Some, None, slice_get, int_le, int_lt, ◌&&◌}
 use Rattle.std.proofs.lemmas.Option.{same_Some}
-use Rattle.rx_base.specs.declared.ids.GlobalRef.{GlobalRef}
+use Rattle.rx_rules.proofs.Common.{GlobalRef, Live, State, block_of, is_index, word_at, Reads, Refuses, MayCell}
 use Rattle.rx_heap.specs.Region.{Region}
 use Rattle.rx_rules.specs.declared.events.Cell.TheVariants.{Get}
-use Rattle.rx_rules.specs.Store.{Live, State, block_of, is_index, word_at, Reads, Refuses, MayCell}
 use Rattle.rx_store.specs.declared.table.Held.{Held}
 use Rattle.rx_store.specs.Table.{slot_at, Backs, TableHolds, IsLocated, IsUnlocated}
 use Rattle.rx_store.proofs.Holding.{found, not_found}

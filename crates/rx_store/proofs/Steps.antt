@@ -1,11 +1,9 @@
 -- What a store keeps after an event, and what the event tells.
-use Rattle.std.proofs.Common.{◌≡◌, ℕ, ◌-◌, ◌<◌, ◌^◌, false, [], ◌∷◌, ◌++◌, length, arith, sym, subst, ap, ◌∙◌, max}
-use Rattle.std.specs.Prelude.{Option, Some, None}
-use Rattle.rx_base.specs.declared.ids.PlaceId.{PlaceId}
+use Rattle.std.proofs.Common.{◌≡◌, ℕ, ◌-◌, ◌<◌, ◌^◌, false, [], ◌∷◌, ◌++◌, length, arith, sym, subst, ap, ◌∙◌, max, Option, Some, None}
+use Rattle.rx_rules.proofs.Common.{PlaceId, State, opening_state}
 use Rattle.rx_rules.specs.declared.events.Cell.{Cell}
 use Rattle.rx_rules.specs.declared.events.PlaceEvent.{PlaceEvent}
 use Rattle.rx_rules.specs.declared.events.PlaceEvent.TheVariants.{Done, Close}
-use Rattle.rx_rules.specs.Store.{State, opening_state}
 use Rattle.rx_history.specs.Events.{Events}
 use Rattle.rx_store.specs.declared.calls.Mark.{Mark}
 use Rattle.rx_store.specs.Kept.{Kept, state_of, ends_closed}

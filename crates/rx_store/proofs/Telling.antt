@@ -1,13 +1,11 @@
 -- What each call finds is what the law tells, and what it leaves are the blocks after that.
-use Rattle.std.proofs.Common.{◌≡◌, ℕ, zero, suc, ◌+◌, ◌<◌, Bool, false, ℤ, pos, List, ◌∷◌, ◌++◌, map, filter, cond, length, length-set, set, take, drop, replicate, get_or, arith, refl, sym, subst, ap, ◌∙◌, add-one}
-use Rattle.std.specs.Prelude.{Option, Some, None, slice_get, slice_index, not}
+use Rattle.std.proofs.Common.{◌≡◌, ℕ, zero, suc, ◌+◌, ◌<◌, Bool, false, ℤ, pos, List, ◌∷◌, ◌++◌, map, filter, cond, length, length-set, set, take, drop, replicate, get_or, arith, refl, sym, subst, ap, ◌∙◌, add-one, Option, Some, None, slice_get, slice_index, not}
 use Rattle.std.proofs.lemmas.List.{length-replicate}
 use Rattle.std.proofs.lemmas.Option.{none-some}
-use Rattle.rx_base.specs.declared.ids.GlobalRef.{GlobalRef}
+use Rattle.rx_rules.proofs.Common.{GlobalRef, Live, opening_state, MayCell, after_cell, is_block, set_word}
 use Rattle.rx_heap.specs.Region.{Region, Extent, IsLaid, IsFree, IsLeastFree}
 use Rattle.rx_rules.specs.declared.events.Cell.{Cell}
 use Rattle.rx_rules.specs.declared.events.Cell.TheVariants.{Make, MakeFull, Get, Put, Forget, GetRefused, PutRefused, ForgetStale}
-use Rattle.rx_rules.specs.Store.{Live, opening_state, MayCell, after_cell, is_block, set_word}
 use Rattle.rx_rules.specs.Store as law
 use Rattle.rx_store.specs.declared.table.Held.{Held}
 use Rattle.rx_store.specs.Table.{slot_at, Table, TableHolds, Stands, IsTable, Tells, IsLocated, IsUnlocated}

@@ -1,7 +1,7 @@
 -- What stands for a tree is one of the script's lists.
 use Rattle.std.proofs.Common.{ℕ, ◌<◌, List, length}
 use Rattle.std.proofs.lemmas.Option.{slice_get_within}
-use Rattle.rx_rules.specs.Code.{Expr, Num, Name, Here, Bin}
+use Rattle.rx_rules.proofs.Common.{Expr, Num, Name, Here, Bin}
 use Rattle.rx_syntax.specs.Shape.{ExprStands}
 use Rattle.rx_syntax.specs.declared.nodes.ExprId.{ExprId}
 use Rattle.rx_syntax.specs.declared.nodes.Expr.{Expr as Part}

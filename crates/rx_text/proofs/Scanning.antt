@@ -1,6 +1,5 @@
 -- Digits that are read one after another.
-use Rattle.std.proofs.Common.{◌≡◌, ℕ, ◌+◌, ◌*◌, ◌-◌, ◌<◌, ◌≤◌, ◌^◌, true, false, List, [], ◌∷◌, ◌++◌, length, take, drop, slice_index, zero, suc, refl, ap, sym, ◌∙◌, arith, length-take, subst, Bool, cond, nat_lt, nat_le, not, ◌&&◌, ◌==◌, get_or, length-append, length-drop}
-use Rattle.std.specs.Prelude.{Option, Some, None, ℤ, pos, negsuc, FitsSigned}
+use Rattle.std.proofs.Common.{◌≡◌, ℕ, ◌+◌, ◌*◌, ◌-◌, ◌<◌, ◌≤◌, ◌^◌, true, false, List, [], ◌∷◌, ◌++◌, length, take, drop, slice_index, zero, suc, refl, ap, sym, ◌∙◌, arith, length-take, subst, Bool, cond, nat_lt, nat_le, not, ◌&&◌, ◌==◌, get_or, length-append, length-drop, Option, Some, None, ℤ, pos, negsuc, FitsSigned}
 use Rattle.std.specs.Char.{is_ascii_digit, digit_value}
 use Rattle.std.specs.Fmt.{decimal}
 use Rattle.std.specs.Int.{w64}

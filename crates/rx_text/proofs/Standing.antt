@@ -1,6 +1,5 @@
 -- Where numbers stand.
-use Rattle.std.proofs.Common.{◌≡◌, ℕ, ◌+◌, ◌-◌, ◌<◌, ◌≤◌, List, ◌++◌, length, drop, ap, sym, ◌∙◌, arith, length-append, length-drop, subst}
-use Rattle.std.specs.Prelude.{ℤ, pos, negsuc}
+use Rattle.std.proofs.Common.{◌≡◌, ℕ, ◌+◌, ◌-◌, ◌<◌, ◌≤◌, List, ◌++◌, length, drop, ap, sym, ◌∙◌, arith, length-append, length-drop, subst, ℤ, pos, negsuc}
 use Rattle.std.proofs.lemmas.List.{drop-drop}
 use Rattle.rx_text.specs.Numbers.{number_text, NoDigitFirst, StandsAt}
 use Rattle.rx_text.proofs.Digits.{some-decimal}

@@ -1,9 +1,7 @@
 -- The members of a set, place by place.
-use Rattle.std.proofs.Common.{◌≡◌, ℕ, ◌+◌, ◌<◌, ◌^◌, Bool, true, false, cond, List, [], ◌∷◌, ◌++◌, drop, refl, ap, sym, ◌∙◌, append_assoc, append-nil}
-use Rattle.std.specs.Prelude.{filter, codes}
+use Rattle.std.proofs.Common.{◌≡◌, ℕ, ◌+◌, ◌<◌, ◌^◌, Bool, true, false, cond, List, [], ◌∷◌, ◌++◌, drop, refl, ap, sym, ◌∙◌, append_assoc, append-nil, filter, codes}
 use Rattle.std.specs.List.{flat_map}
-use Rattle.rx_base.specs.declared.place_set.PlaceSet.{PlaceSet}
-use Rattle.rx_base.specs.Sets.{all_places, has_bit, members}
+use Rattle.rx_rules.proofs.Common.{PlaceSet, all_places, has_bit, members}
 use Rattle.rx_base.proofs.Members.{some-member, place-at}
 use Rattle.rx_text.proofs.Lists.{left-more}
 use Rattle.rx_trace.specs.Fields.{natural_field}

@@ -1,7 +1,6 @@
 -- A change of the row that a walk found.
-use Rattle.std.specs.Prelude.{◌≡◌, ℕ, suc, zero, ◌<◌, Bool, true, false, List, [], ◌∷◌, length, slice_index_or, slice_set, refl}
-use Rattle.std.proofs.Common.{ap, arith}
-use Rattle.rx_rules.specs.Entries.{change_first}
+use Rattle.std.proofs.Common.{◌≡◌, ℕ, suc, zero, ◌<◌, Bool, true, false, List, [], ◌∷◌, length, slice_index_or, slice_set, refl, ap, arith}
+use Rattle.rx_rules.proofs.Common.{change_first}
 use Rattle.rx_tree.specs.Inside.Positions.{IsFirst, PassesNone}
 
 first_at : {X : Type 0} (p : X → Bool) (f : X → X) (xs : List X) (i : ℕ) (d : X) → i < length xs → p (slice_index_or xs i d) ≡ true → ((k : ℕ) → k < i → p (slice_index_or xs k d) ≡ false) → slice_set xs i (f (slice_index_or xs i d)) ≡ change_first p f xs

@@ -1,18 +1,11 @@
 -- What a release leaves.
-use Rattle.std.specs.Prelude.{◌≡◌, ℕ, ◌<◌, min, Bool, true, false, not, ◌&&◌, ◌==◌, List, [], ◌∷◌, ◌++◌, filter, length, sum_by, Some, None, is_some, option_map, Result, Ok, Err, OnOk, slice_index_or, slice_set, refl}
+use Rattle.std.proofs.Common.{◌≡◌, ℕ, ◌<◌, min, Bool, true, false, not, ◌&&◌, ◌==◌, List, [], ◌∷◌, ◌++◌, filter, length, sum_by, Some, None, is_some, option_map, Result, Ok, Err, OnOk, slice_index_or, slice_set, refl, ap, ◌∙◌, lit<}
 use Rattle.std.specs.List.{find, list_any}
-use Rattle.std.proofs.Common.{ap, ◌∙◌, lit<}
 use Rattle.std.proofs.lemmas.Bool.{eq-eqb}
 use Rattle.std.proofs.lemmas.List.Elements.{filter_agree}
-use Rattle.rx_base.specs.declared.ids.PlaceId.{PlaceId}
-use Rattle.rx_base.specs.declared.place_set.PlaceSet.{PlaceSet}
-use Rattle.rx_base.specs.declared.ids.ScopeId.{ScopeId}
-use Rattle.rx_base.specs.declared.values.Fault.{Fault}
-use Rattle.rx_base.specs.Sets.{all_places, members, has_bit}
+use Rattle.rx_rules.proofs.Common.{PlaceId, PlaceSet, ScopeId, Fault, all_places, members, has_bit, Tree, is_scope, is_under, on_chain, chain_in, quiet, MayFree, without, thrown_of, was_lost_at, change_first}
 use Rattle.rx_rules.specs.declared.tasks.Task.{Task}
 use Rattle.rx_rules.specs.declared.tasks.Scope.{Scope}
-use Rattle.rx_rules.specs.Tree.{Tree, is_scope, is_under, on_chain, chain_in, quiet}
-use Rattle.rx_rules.specs.Entries.{MayFree, without, thrown_of, was_lost_at, change_first}
 use Rattle.rx_tree.specs.Inside.Positions.{IsFirst}
 use Rattle.rx_tree.specs.Inside.Removal.{holds_scope}
 use Rattle.rx_tree.proofs.Firsts.{at_first}

@@ -1,12 +1,8 @@
 -- The trees of a worked history, and who may ask of them.
-use Rattle.std.specs.Prelude.{[], ◌∷◌, pos, Result, Ok, Err, OnOk, refl}
-use Rattle.std.proofs.Common.{lit<, lit≤}
-use Rattle.rx_base.specs.declared.values.Fault.TheVariants.{Thrown}
+use Rattle.std.proofs.Common.{[], ◌∷◌, pos, Result, Ok, Err, OnOk, refl, lit<, lit≤}
+use Rattle.rx_rules.proofs.Common.{Thrown, Tree, made_act, strike, change_task, resumed, without, widened, opening}
 use Rattle.rx_rules.specs.declared.tasks.Where.TheVariants.{At, Travel}
 use Rattle.rx_rules.specs.declared.entries.Act.TheVariants.{Open, Spawn, Arrive, Wait, End}
-use Rattle.rx_rules.specs.Tree.{Tree}
-use Rattle.rx_rules.specs.Entries.{made_act, strike, change_task, resumed, without, widened}
-use Rattle.rx_rules.specs.Fold.{opening}
 use Rattle.rx_finish.specs.Callers.{MayAskMoving, MayAskTo, MayAskArrive, MayAskWait, MayAskRelease, MayAskEnd, IsMoving, Travels, HasFinish, WaitsInside, IsBare, HasRoot, MayStrike, MayJoin}
 use Rattle.rx_finish.specs.declared.ledger.Caller.{Caller}
 use Rattle.rx_finish.specs.declared.ledger.LedgerFault.{LedgerFault}

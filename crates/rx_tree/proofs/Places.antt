@@ -1,12 +1,9 @@
 -- A reached tree has at most 16 places.
-use Rattle.std.specs.Prelude.{◌≡◌, ◌≤◌}
-use Rattle.std.proofs.Common.{sym, subst, arith}
-use Rattle.rx_base.specs.declared.ids.TaskId.{TaskId}
+use Rattle.std.proofs.Common.{◌≡◌, ◌≤◌, sym, subst, arith}
+use Rattle.rx_rules.proofs.Common.{TaskId, Tree, made_act, Reached, opens, acts, dies, joins}
 use Rattle.rx_rules.specs.declared.entries.Act.{Act}
 use Rattle.rx_rules.specs.declared.entries.Act.TheVariants.{Open, At as Calls, Spawn, Arrive, Wait, Release, End, Print, Census}
-use Rattle.rx_rules.specs.Tree.{Tree}
-use Rattle.rx_rules.specs.Entries.{made_act}
-use Rattle.rx_rules.specs.Reached.{Reached, opens, acts, ends, dies, joins}
+use Rattle.rx_rules.specs.Reached.{ends}
 use Rattle.rx_rules.proofs.Append.{end-places}
 
 acted_few : (T : Tree) (t : TaskId) (act : Act) → T.places ≤ 16 → (made_act T t act).places ≤ 16

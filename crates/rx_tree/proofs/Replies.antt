@@ -1,15 +1,12 @@
 -- A reply for the tree that is kept is one for each tree for which the ledger stands.
-use Rattle.std.specs.Prelude.{◌≡◌, ℕ, List, Result, Ok, Err}
-use Rattle.std.proofs.Common.{sym, subst, ap, ◌∙◌}
-use Rattle.rx_base.specs.declared.ids.PlaceId.{PlaceId}
+use Rattle.std.proofs.Common.{◌≡◌, ℕ, List, Result, Ok, Err, sym, subst, ap, ◌∙◌}
+use Rattle.rx_rules.proofs.Common.{PlaceId, Tree, the_root, Allowed, AllowedAct, made_act, change_task, resumed, strike, widened, Reached, acts, dies, joins}
 use Rattle.rx_rules.specs.declared.tasks.Task.{Task}
 use Rattle.rx_rules.specs.declared.tasks.Scope.{Scope}
 use Rattle.rx_rules.specs.declared.entries.Act.{Act}
 use Rattle.rx_rules.specs.declared.entries.Act.TheVariants.{Release}
 use Rattle.rx_rules.specs.declared.entries.Entry.TheVariants.{Root}
-use Rattle.rx_rules.specs.Tree.{Tree, the_root}
-use Rattle.rx_rules.specs.Entries.{Allowed, AllowedAct, made_act, change_task, resumed, strike, widened}
-use Rattle.rx_rules.specs.Reached.{Reached, acts, ends, dies, joins}
+use Rattle.rx_rules.specs.Reached.{ends}
 use Rattle.rx_finish.specs.declared.ledger.Caller.{Caller}
 use Rattle.rx_finish.specs.declared.ledger.Outcome.{Outcome}
 use Rattle.rx_finish.specs.declared.ledger.LedgerFault.{LedgerFault}

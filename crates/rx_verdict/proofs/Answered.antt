@@ -1,10 +1,8 @@
 -- The law of stores allows one answer.
-use Rattle.std.specs.Prelude.{◌≡◌, ℕ, ℤ, Bool, true, false, Some}
-use Rattle.std.proofs.Common.{ap, sym, subst, ◌∙◌}
+use Rattle.std.proofs.Common.{◌≡◌, ℕ, ℤ, Bool, true, false, Some, ap, sym, subst, ◌∙◌}
 use Rattle.std.proofs.lemmas.Bool.{true≢false}
-use Rattle.rx_base.specs.declared.ids.GlobalRef.{GlobalRef}
+use Rattle.rx_rules.proofs.Common.{GlobalRef, State, Live, MayCell, IsLeastFree, Refuses, fits, block_of, word_at}
 use Rattle.rx_rules.specs.declared.events.Cell.TheVariants.{Make, MakeFull, Get, Put, Forget, GetRefused, PutRefused, ForgetStale}
-use Rattle.rx_rules.specs.Store.{State, Live, MayCell, IsLeastFree, Refuses, fits, block_of, word_at}
 use Rattle.rx_runs.proofs.Telling.{least_once, not_refused, one_refusal}
 use Rattle.rx_store.specs.Asks.{makes}
 use Rattle.rx_verdict.specs.Asks.{OneAnswer}

@@ -1,19 +1,13 @@
 -- Births in a history: the entries of a task come after its birth, and each task but the first has a starter with a lesser number.
-use Rattle.std.specs.Prelude.{◌≡◌, ◌⊎◌, ℕ, suc, ◌+◌, ◌<◌, ◌≤◌, ◌==◌, Bool, true, false, cond, List, [], ◌∷◌, Some, None, All, refl}
+use Rattle.std.proofs.Common.{◌≡◌, ◌⊎◌, ℕ, suc, ◌+◌, ◌<◌, ◌≤◌, ◌==◌, Bool, true, false, cond, List, [], ◌∷◌, Some, None, All, refl, ap, sym, subst, ◌∙◌, arith, inl, inr, ⊎_elim}
 use Rattle.std.specs.List.{cons_option}
-use Rattle.std.proofs.Common.{ap, sym, subst, ◌∙◌, arith, inl, inr, ⊎_elim}
 use Rattle.std.proofs.lemmas.Bool.{eq-eqb, ne_eqb, cases_eq, cases_lt}
-use Rattle.rx_base.specs.declared.ids.TaskId.{TaskId}
+use Rattle.rx_rules.proofs.Common.{TaskId, Tree, task_of, AllowedAct, made, made_act, AllAllowed, births, births_of, Reached, IsOlder, Moves, Birth, birth_in, birth_from, moves_from, started_by}
 use Rattle.rx_rules.specs.declared.entries.Act.{Act}
 use Rattle.rx_rules.specs.declared.entries.Act.TheVariants.{Open, At as Calls, Spawn, Arrive, Wait, Release, End, Print, Census}
 use Rattle.rx_rules.specs.declared.entries.Entry.{Entry}
 use Rattle.rx_rules.specs.declared.entries.Entry.TheVariants.{Step, Root, Death, Join}
 use Rattle.rx_rules.specs.declared.tasks.Task.{Task}
-use Rattle.rx_rules.specs.Tree.{Tree, task_of}
-use Rattle.rx_rules.specs.Entries.{AllowedAct, made, made_act}
-use Rattle.rx_rules.specs.Fold.{AllAllowed, births, births_of}
-use Rattle.rx_rules.specs.Reached.{Reached, IsOlder}
-use Rattle.rx_rules.specs.Plays.{Moves, Birth, birth_in, birth_from, moves_from, started_by}
 use Rattle.rx_sound.proofs.Births.{StartsOther, from-other, from-here, births-left}
 use Rattle.rx_sound.proofs.Reached.{sound}
 use Rattle.rx_sound.proofs.Reach.{task_below}

@@ -1,10 +1,8 @@
 -- Lawful events and one more.
-use Rattle.std.specs.Prelude.{◌≡◌, ◌⊎◌, ℕ, zero, suc, ◌<◌, ◌≤◌, Bool, true, false, List, [], ◌∷◌, ◌++◌, length, take, refl}
-use Rattle.std.proofs.Common.{ap, sym, subst, ◌∙◌, arith, ⊎_elim}
+use Rattle.std.proofs.Common.{◌≡◌, ◌⊎◌, ℕ, zero, suc, ◌<◌, ◌≤◌, Bool, true, false, List, [], ◌∷◌, ◌++◌, length, take, refl, ap, sym, subst, ◌∙◌, arith, ⊎_elim}
 use Rattle.rx_rules.specs.declared.events.PlaceEvent.{PlaceEvent}
 use Rattle.rx_rules.specs.declared.events.PlaceEvent.TheVariants.{Done, Close}
-use Rattle.rx_rules.specs.Store.{State, after_cell, IsStoreRun, opening_state}
-use Rattle.rx_rules.specs.Run.{NotFalling, stamp_of}
+use Rattle.rx_rules.proofs.Common.{State, after_cell, IsStoreRun, opening_state, NotFalling, stamp_of}
 use Rattle.rx_store.specs.Kept.{state_from, closed_from, stamp_from, state_of, ends_closed, last_stamp}
 use Rattle.rx_store.proofs.Running.{run_done, run_close}
 use Rattle.rx_verdict.specs.Lawful.{AreLawful, AllWantSome, WantsSome, IsLawfulCount, OneLawfulCount}

@@ -1,21 +1,12 @@
 -- Where the verdict is `run`, history and journals are a whole run.
-use Rattle.std.specs.Prelude.{◌≡◌, ℕ, zero, suc, ◌+◌, ◌<◌, ◌≤◌, Bool, true, false, List, [], ◌∷◌, length, take, Option, Some, slice_get, refl}
-use Rattle.std.proofs.Common.{ap, sym, subst, ◌∙◌, arith}
+use Rattle.std.proofs.Common.{◌≡◌, ℕ, zero, suc, ◌+◌, ◌<◌, ◌≤◌, Bool, true, false, List, [], ◌∷◌, length, take, Option, Some, slice_get, refl, ap, sym, subst, ◌∙◌, arith}
 use Rattle.std.proofs.lemmas.List.{take_all}
-use Rattle.rx_base.specs.declared.ids.PlaceId.{PlaceId}
-use Rattle.rx_base.specs.declared.ids.TaskId.{TaskId}
+use Rattle.rx_rules.proofs.Common.{PlaceId, TaskId, Block, Term, Vars, AllAllowed, opening, births, opens, Cells, Moves, Starts, Plays, Begins, EachPlays, Played, journal_at, birth_of, travels, moves_from, Birth, IsStoreRun, opening_state, Given, Proper, in_all, plan_of, PlanKept, NotFalling, JournalOk, death_number, IsRun}
 use Rattle.rx_rules.specs.declared.entries.Act.TheVariants.{Open, At as Calls, Spawn, Arrive, Wait, Release, End, Print, Census}
 use Rattle.rx_rules.specs.declared.entries.Entry.{Entry}
 use Rattle.rx_rules.specs.declared.events.Cell.{Cell}
 use Rattle.rx_rules.specs.declared.events.PlaceEvent.{PlaceEvent}
 use Rattle.rx_rules.specs.declared.events.PlaceEvent.TheVariants.{Done, Close}
-use Rattle.rx_rules.specs.Code.{Block}
-use Rattle.rx_rules.specs.Terms.{Term, Vars}
-use Rattle.rx_rules.specs.Fold.{AllAllowed, opening, births}
-use Rattle.rx_rules.specs.Reached.{opens}
-use Rattle.rx_rules.specs.Plays.{Cells, Moves, Starts, Plays, Begins, EachPlays, Played, journal_at, birth_of, travels, moves_from, Birth}
-use Rattle.rx_rules.specs.Store.{IsStoreRun, opening_state}
-use Rattle.rx_rules.specs.Run.{Given, Proper, in_all, plan_of, PlanKept, NotFalling, JournalOk, death_number, IsRun}
 use Rattle.rx_sound.proofs.Histories.{none_yet}
 use Rattle.rx_verdict.specs.declared.verdict.Verdict.TheVariants.{Run}
 use Rattle.rx_verdict.specs.Makes.{Makes, MakesEvent, Between, Landing, Made, TaskMakes, TaskMakesEvent, cells_of}

@@ -1,22 +1,14 @@
 -- The step of the pass at a request and at an end, whole.
-use Rattle.std.specs.Prelude.{◌≡◌, Bool, ℕ, ◌+◌, List, [], ◌∷◌, ◌++◌, length, Option, Some, None, slice_get, refl}
-use Rattle.std.proofs.Common.{ap, sym, subst, arith, ⊎_elim}
+use Rattle.std.proofs.Common.{◌≡◌, Bool, ℕ, ◌+◌, List, [], ◌∷◌, ◌++◌, length, Option, Some, None, slice_get, refl, ap, sym, subst, arith, ⊎_elim}
 use Rattle.std.proofs.lemmas.List.{append-nil}
-use Rattle.rx_base.specs.declared.ids.PlaceId.{PlaceId}
-use Rattle.rx_base.specs.declared.ids.TaskId.{TaskId}
-use Rattle.rx_base.specs.declared.values.Fault.{Fault}
+use Rattle.rx_rules.proofs.Common.{PlaceId, TaskId, Fault, Block, Term, Vars, Done, child, tree_of, births, births_of, Player, acted, Cells, Moves, Starts, StartsSo, birth_of, started_by, travels, moves_from}
 use Rattle.rx_rules.specs.declared.entries.Act.{Act}
 use Rattle.rx_rules.specs.declared.entries.Act.TheVariants.{End}
 use Rattle.rx_rules.specs.declared.entries.Entry.{Entry}
 use Rattle.rx_rules.specs.declared.entries.Entry.TheVariants.{Step}
 use Rattle.rx_rules.specs.declared.events.PlaceEvent.{PlaceEvent}
-use Rattle.rx_rules.specs.Code.{Block}
-use Rattle.rx_rules.specs.Terms.{Term, Vars, Done, child}
-use Rattle.rx_rules.specs.Fold.{tree_of, births, births_of}
-use Rattle.rx_rules.specs.Picked.{Player, acted}
 use Rattle.rx_runs.specs.AnyAnswers.{AsksStore}
 use Rattle.rx_runs.specs.Games.{fresh}
-use Rattle.rx_rules.specs.Plays.{Cells, Moves, Starts, StartsSo, birth_of, started_by, travels, moves_from}
 use Rattle.rx_rules.proofs.Numbers.{next-tree}
 use Rattle.rx_verdict.specs.Makes as parts
 use Rattle.rx_verdict.specs.Makes.{Made, Landing, cells_of}

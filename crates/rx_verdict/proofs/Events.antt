@@ -1,12 +1,9 @@
 -- The events of a task that its term makes.
-use Rattle.std.specs.Prelude.{◌≡◌, ℕ, zero, suc, List, [], ◌∷◌}
-use Rattle.std.proofs.Common.{ap, subst}
-use Rattle.rx_base.specs.declared.ids.PlaceId.{PlaceId}
-use Rattle.rx_base.specs.declared.values.Fault.{Fault}
+use Rattle.std.proofs.Common.{◌≡◌, ℕ, zero, suc, List, [], ◌∷◌, ap, subst}
+use Rattle.rx_rules.proofs.Common.{PlaceId, Fault, Term, Vars, Answer, answered, vars_after, Local, Done, does, granted, Cells, Moves, Starts, Tells, begun, brought, vars_told}
 use Rattle.rx_rules.specs.declared.entries.Act.{Act}
 use Rattle.rx_rules.specs.declared.events.Cell.{Cell}
-use Rattle.rx_rules.specs.Terms.{Term, Vars, Answer, answered, vars_after, Local, Done, does, granted}
-use Rattle.rx_rules.specs.Plays.{Cells, Moves, Starts, Tells, Fits, begun, brought, vars_told}
+use Rattle.rx_rules.specs.Plays.{Fits}
 use Rattle.rx_runs.proofs.NextSteps.{told_once, not_told_and_fits, not_local_told, not_local_fits, not_done_told, not_done_fits, not_local_done}
 use Rattle.rx_verdict.specs.Makes.{MakesEvent, now, local, stores, asks, StampRule, KeepsRule}
 

@@ -1,12 +1,10 @@
 -- The journals of all places.
-use Rattle.std.specs.Prelude.{◌≡◌, ℕ, zero, suc, ◌+◌, ◌<◌, false, List, [], ◌∷◌, ◌++◌, map, replicate, length, take, Option, Some, None, option_map, slice_get, refl}
+use Rattle.std.proofs.Common.{◌≡◌, ℕ, zero, suc, ◌+◌, ◌<◌, false, List, [], ◌∷◌, ◌++◌, map, replicate, length, take, Option, Some, None, option_map, slice_get, refl, ap, ◌∙◌, arith}
 use Rattle.std.specs.List.{filter_map}
-use Rattle.std.proofs.Common.{ap, ◌∙◌, arith}
 use Rattle.std.proofs.lemmas.Option.{slice_get-map}
 use Rattle.rx_rules.specs.declared.events.PlaceEvent.{PlaceEvent}
 use Rattle.rx_rules.specs.declared.events.PlaceEvent.TheVariants.{Done, Close}
-use Rattle.rx_rules.specs.Plays.{journal_at}
-use Rattle.rx_rules.specs.Run.{close_in}
+use Rattle.rx_rules.proofs.Common.{journal_at, close_in}
 use Rattle.rx_history.specs.Events.{Events, AllEvents, events_of}
 use Rattle.rx_kills.proofs.Dying.{take-next}
 use Rattle.rx_verdict.specs.Marked.{no_marks}

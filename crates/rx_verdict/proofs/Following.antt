@@ -1,12 +1,10 @@
 -- Blocks that were asked what an event tells.
-use Rattle.std.specs.Prelude.{◌≡◌, ◌↔◌, ℕ, ◌≤◌, Bool, false, List, IsTrue}
-use Rattle.std.proofs.Common.{sym, subst}
+use Rattle.std.proofs.Common.{◌≡◌, ◌↔◌, ℕ, ◌≤◌, Bool, false, List, IsTrue, sym, subst}
 use Rattle.std.proofs.lemmas.Bool.{true≢false}
-use Rattle.rx_base.specs.declared.ids.TaskId.{TaskId}
+use Rattle.rx_rules.proofs.Common.{TaskId, MayCell, after_cell}
 use Rattle.rx_rules.specs.declared.events.Cell.{Cell}
 use Rattle.rx_rules.specs.declared.events.PlaceEvent.{PlaceEvent}
 use Rattle.rx_rules.specs.declared.events.PlaceEvent.TheVariants.{Done, Close}
-use Rattle.rx_rules.specs.Store.{MayCell, after_cell}
 use Rattle.rx_store.specs.Asks.{ask_of}
 use Rattle.rx_store.specs.Table.{Table, Stands, Tells}
 use Rattle.rx_verdict.specs.Lawful.{AsksSome}

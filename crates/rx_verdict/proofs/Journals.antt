@@ -1,17 +1,12 @@
 -- Journals, read event by event.
-use Rattle.std.specs.Prelude.{◌≡◌, ◌⊎◌, ℕ, zero, suc, ◌+◌, ◌<◌, ◌≤◌, ◌==◌, Bool, true, false, cond, List, [], ◌∷◌, length, take, Option, Some, None, slice_get, refl}
+use Rattle.std.proofs.Common.{◌≡◌, ◌⊎◌, ℕ, zero, suc, ◌+◌, ◌<◌, ◌≤◌, ◌==◌, Bool, true, false, cond, List, [], ◌∷◌, length, take, Option, Some, None, slice_get, refl, ap, sym, subst, ◌∙◌, arith, inl, inr, ⊎_elim}
 use Rattle.std.specs.List.{filter_map, cons_option}
-use Rattle.std.proofs.Common.{ap, sym, subst, ◌∙◌, arith, inl, inr, ⊎_elim}
 use Rattle.std.proofs.lemmas.Bool.{eq-eqb, eqb-true}
-use Rattle.rx_base.specs.declared.ids.TaskId.{TaskId}
+use Rattle.rx_rules.proofs.Common.{TaskId, births, Cells, cell_of, journal_at, birth_of, State, IsStoreRun, after_cell, Given, NotFalling, ClosesAt, AtHome, JournalOk, AllJournals, close_in, stamp_of}
 use Rattle.rx_rules.specs.declared.entries.Entry.{Entry}
 use Rattle.rx_rules.specs.declared.events.Cell.{Cell}
 use Rattle.rx_rules.specs.declared.events.PlaceEvent.{PlaceEvent}
 use Rattle.rx_rules.specs.declared.events.PlaceEvent.TheVariants.{Done, Close}
-use Rattle.rx_rules.specs.Fold.{births}
-use Rattle.rx_rules.specs.Plays.{Cells, cell_of, journal_at, birth_of}
-use Rattle.rx_rules.specs.Store.{State, IsStoreRun, after_cell}
-use Rattle.rx_rules.specs.Run.{Given, NotFalling, ClosesAt, AtHome, JournalOk, AllJournals, close_in, stamp_of}
 use Rattle.rx_verdict.specs.Verdicts.{events_before, Shut}
 use Rattle.rx_verdict.proofs.Replays.{Climbs}
 

@@ -1,19 +1,13 @@
 -- The terms at the births of all tasks are one list.
-use Rattle.std.specs.Prelude.{◌≡◌, ◌⊎◌, ℕ, zero, suc, ◌+◌, ◌<◌, ◌≤◌, Bool, true, false, List, [], ◌∷◌, length, Option, Some, None, slice_get, refl}
-use Rattle.std.proofs.Common.{ap, sym, subst, ◌∙◌, arith, inl, inr, ⊎_elim}
+use Rattle.std.proofs.Common.{◌≡◌, ◌⊎◌, ℕ, zero, suc, ◌+◌, ◌<◌, ◌≤◌, Bool, true, false, List, [], ◌∷◌, length, Option, Some, None, slice_get, refl, ap, sym, subst, ◌∙◌, arith, inl, inr, ⊎_elim}
 use Rattle.std.proofs.lemmas.Bool.{cases_lt}
-use Rattle.rx_base.specs.declared.ids.PlaceId.{PlaceId}
-use Rattle.rx_base.specs.declared.ids.TaskId.{TaskId}
+use Rattle.rx_rules.proofs.Common.{PlaceId, TaskId, Block, Term, Vars, Answer, answered, vars_after, Local, does, granted, child, AllAllowed, opening, births, opens, Cells, Moves, Starts, Tells, StartsSo, begun, brought, vars_told, birth_of, travels, moves_from}
 use Rattle.rx_rules.specs.declared.entries.Act.{Act}
 use Rattle.rx_rules.specs.declared.entries.Act.TheVariants.{Open, At as Calls, Spawn, Arrive, Wait, Release, End, Print, Census}
 use Rattle.rx_rules.specs.declared.entries.Entry.{Entry}
 use Rattle.rx_rules.specs.declared.events.Cell.{Cell}
 use Rattle.rx_rules.specs.declared.events.PlaceEvent.{PlaceEvent}
-use Rattle.rx_rules.specs.Code.{Block}
-use Rattle.rx_rules.specs.Terms.{Term, Vars, Answer, answered, vars_after, Local, does, granted, child}
-use Rattle.rx_rules.specs.Fold.{AllAllowed, opening, births}
-use Rattle.rx_rules.specs.Reached.{opens}
-use Rattle.rx_rules.specs.Plays.{Cells, Moves, Starts, Tells, Fits, StartsSo, begun, brought, vars_told, birth_of, travels, moves_from}
+use Rattle.rx_rules.specs.Plays.{Fits}
 use Rattle.rx_sound.proofs.Histories.{none_yet}
 use Rattle.rx_verdict.specs.Makes.{Makes, local, stores, asks, ends, stops, Landing, Made, TaskMakes, EachMakes, cells_of}
 use Rattle.rx_runs.proofs.NextSteps.{told_once, not_told_and_fits, not_local_told, not_local_fits, not_done_told, not_done_fits, not_local_done}

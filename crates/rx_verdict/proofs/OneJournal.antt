@@ -1,10 +1,8 @@
 -- All journals, one after the other.
-use Rattle.std.specs.Prelude.{◌≡◌, ℕ, ◌<◌, Bool, List, length, Option}
-use Rattle.std.proofs.Common.{sym, subst}
+use Rattle.std.proofs.Common.{◌≡◌, ℕ, ◌<◌, Bool, List, length, Option, sym, subst}
 use Rattle.rx_rules.specs.declared.entries.Entry.{Entry}
 use Rattle.rx_rules.specs.declared.events.PlaceEvent.{PlaceEvent}
-use Rattle.rx_rules.specs.Plays.{journal_at}
-use Rattle.rx_rules.specs.Run.{death_number}
+use Rattle.rx_rules.proofs.Common.{journal_at, death_number}
 use Rattle.rx_verdict.specs.Marked.{row_at}
 use Rattle.rx_verdict.specs.Flaws.{IsSound, IsSoundIn}
 

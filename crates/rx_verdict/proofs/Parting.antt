@@ -1,22 +1,13 @@
 -- A part of a run with one entry more.
-use Rattle.std.specs.Prelude.{◌≡◌, ℕ, zero, suc, ◌+◌, ◌≤◌, true, List, [], ◌∷◌, ◌++◌, length, take, Some, None, slice_get, refl}
+use Rattle.std.proofs.Common.{◌≡◌, ℕ, zero, suc, ◌+◌, ◌≤◌, true, List, [], ◌∷◌, ◌++◌, length, take, Some, None, slice_get, refl, ap, sym, subst, ◌∙◌, arith}
 use Rattle.std.specs.List.{filter_map}
-use Rattle.std.proofs.Common.{ap, sym, subst, ◌∙◌, arith}
 use Rattle.std.proofs.lemmas.List.{append-nil, take-take}
-use Rattle.rx_base.specs.declared.values.Fault.{Fault}
+use Rattle.rx_rules.proofs.Common.{Fault, Block, Term, Vars, Tree, Allowed, made, AllAllowed, opening, fold_from, births, births_of, Player, Cells, Moves, Starts, Birth, birth_in, birth_of, moves_from, travels, cell_of, journal_at, Given, Event, PlanKept, plan_of, rest_of, NoRoot}
 use Rattle.rx_rules.specs.declared.entries.Act.TheVariants.{End}
 use Rattle.rx_rules.specs.declared.entries.Entry.{Entry}
 use Rattle.rx_rules.specs.declared.entries.Entry.TheVariants.{Step, Root, Death, Join}
 use Rattle.rx_rules.specs.declared.events.PlaceEvent.{PlaceEvent}
-use Rattle.rx_rules.specs.Code.{Block}
-use Rattle.rx_rules.specs.Terms.{Term, Vars}
-use Rattle.rx_rules.specs.Tree.{Tree}
-use Rattle.rx_rules.specs.Entries.{Allowed, made}
-use Rattle.rx_rules.specs.Fold.{AllAllowed, opening, fold_from, births, births_of}
-use Rattle.rx_rules.specs.Picked.{Player}
 use Rattle.rx_runs.specs.Games.{fresh}
-use Rattle.rx_rules.specs.Plays.{Cells, Moves, Starts, Birth, birth_in, birth_of, moves_from, travels, cell_of, journal_at}
-use Rattle.rx_rules.specs.Run.{Given, Event, PlanKept, plan_of, rest_of, NoRoot}
 use Rattle.rx_runs.specs.Segments.{plan_left, InTime}
 use Rattle.rx_runs.proofs.Append.{allowed-push}
 use Rattle.rx_runs.proofs.Pushes.{plan-push, moves-push, birth-push}

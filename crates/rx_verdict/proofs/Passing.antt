@@ -1,28 +1,17 @@
 -- The pass over the entries.
-use Rattle.std.specs.Prelude.{◌≡◌, ℕ, suc, ◌+◌, ◌<◌, ◌≤◌, Bool, true, false, cond, List, [], ◌∷◌, ◌++◌, length, take, Option, Some, None, slice_get, All, refl}
+use Rattle.std.proofs.Common.{◌≡◌, ℕ, suc, ◌+◌, ◌<◌, ◌≤◌, Bool, true, false, cond, List, [], ◌∷◌, ◌++◌, length, take, Option, Some, None, slice_get, All, refl, ap, sym, subst, ◌∙◌, arith, ⊎_elim}
 use Rattle.std.specs.List.{filter_map, cons_option}
-use Rattle.std.proofs.Common.{ap, sym, subst, ◌∙◌, arith, ⊎_elim}
 use Rattle.std.proofs.Math.Seq.{take-append_seam}
 use Rattle.std.proofs.lemmas.Bool.{eq-eqb, ne_eqb, cases_eq, cases_lt}
 use Rattle.std.proofs.lemmas.List.{append-nil}
 use Rattle.std.proofs.lemmas.List.Sums.{sum_by-cons}
-use Rattle.rx_base.specs.declared.ids.PlaceId.{PlaceId}
-use Rattle.rx_base.specs.declared.ids.TaskId.{TaskId}
-use Rattle.rx_base.specs.declared.values.Fault.{Fault}
+use Rattle.rx_rules.proofs.Common.{PlaceId, TaskId, Fault, Block, Term, Vars, child, Tree, Allowed, made, made_act, AllAllowed, opening, tree_of, births, births_of, Reached, IsOlder, opens, Player, acted, Cells, Moves, Starts, Birth, birth_of, moves_from, travels, started_by, cell_of, journal_at}
 use Rattle.rx_rules.specs.declared.entries.Act.{Act}
 use Rattle.rx_rules.specs.declared.entries.Act.TheVariants.{Open, At as Calls, Spawn, Arrive, Wait, Release, End, Print, Census}
 use Rattle.rx_rules.specs.declared.entries.Entry.{Entry}
 use Rattle.rx_rules.specs.declared.entries.Entry.TheVariants.{Step, Root, Death, Join}
 use Rattle.rx_rules.specs.declared.events.PlaceEvent.{PlaceEvent}
-use Rattle.rx_rules.specs.Code.{Block}
-use Rattle.rx_rules.specs.Terms.{Term, Vars, child}
-use Rattle.rx_rules.specs.Tree.{Tree}
-use Rattle.rx_rules.specs.Entries.{Allowed, made, made_act}
-use Rattle.rx_rules.specs.Fold.{AllAllowed, opening, tree_of, births, births_of}
-use Rattle.rx_rules.specs.Reached.{Reached, IsOlder, opens}
-use Rattle.rx_rules.specs.Picked.{Player, acted}
 use Rattle.rx_runs.specs.Games.{fresh}
-use Rattle.rx_rules.specs.Plays.{Cells, Moves, Starts, Birth, birth_of, moves_from, travels, started_by, cell_of, journal_at}
 use Rattle.rx_sound.proofs.Births.{birth-other, births-left}
 use Rattle.rx_sound.proofs.Histories.{reached_now, dead-now, none_yet}
 use Rattle.rx_rules.proofs.Numbers.{next-tree}

@@ -1,9 +1,7 @@
 -- A journal replayed, event by event.
-use Rattle.std.specs.Prelude.{◌≡◌, ℕ, zero, suc, ◌+◌, ◌<◌, ◌≤◌, Bool, true, false, List, [], ◌∷◌, ◌++◌, length, take, Some, slice_get, IsTrue}
-use Rattle.std.proofs.Common.{ap, sym, subst, ◌∙◌, arith}
+use Rattle.std.proofs.Common.{◌≡◌, ℕ, zero, suc, ◌+◌, ◌<◌, ◌≤◌, Bool, true, false, List, [], ◌∷◌, ◌++◌, length, take, Some, slice_get, IsTrue, ap, sym, subst, ◌∙◌, arith}
 use Rattle.rx_rules.specs.declared.events.PlaceEvent.{PlaceEvent}
-use Rattle.rx_rules.specs.Store.{State, opening_state}
-use Rattle.rx_rules.specs.Run.{stamp_of}
+use Rattle.rx_rules.proofs.Common.{State, opening_state, stamp_of}
 use Rattle.rx_store.specs.Kept.{state_of, last_stamp}
 use Rattle.rx_store.specs.Table.{Table, Stands}
 use Rattle.rx_store.proofs.Running.{made_from}

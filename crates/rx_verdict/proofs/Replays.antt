@@ -1,10 +1,7 @@
 -- What a task plays, in two parts: its entries are made, and each of its events is.
-use Rattle.std.specs.Prelude.{◌≡◌, ℕ, zero, suc, ◌<◌, ◌≤◌, List, [], ◌∷◌, length, refl}
-use Rattle.std.proofs.Common.{arith}
-use Rattle.rx_base.specs.declared.ids.PlaceId.{PlaceId}
-use Rattle.rx_rules.specs.Terms.{Term, Vars}
+use Rattle.std.proofs.Common.{◌≡◌, ℕ, zero, suc, ◌<◌, ◌≤◌, List, [], ◌∷◌, length, refl, arith}
+use Rattle.rx_rules.proofs.Common.{PlaceId, Term, Vars, Cells, Moves, Starts, Plays}
 use Rattle.rx_rules.specs.Plays as rules
-use Rattle.rx_rules.specs.Plays.{Cells, Moves, Starts, Plays}
 use Rattle.rx_verdict.specs.Makes.{Makes, MakesEvent, NotPast, Between}
 use Rattle.rx_verdict.specs.Makes as parts
 use Rattle.rx_verdict.proofs.Events.{past_local, past_done, past_store, past_ask}

@@ -1,22 +1,12 @@
 -- The pass over the entries as a whole.
-use Rattle.std.specs.Prelude.{◌≡◌, ◌≢◌, ℕ, suc, ◌+◌, ◌<◌, Bool, true, false, cond, List, [], ◌∷◌, ◌++◌, length, take, Option, Some, None}
-use Rattle.std.specs.Prelude.{slice_get, slice_set, refl}
-use Rattle.std.proofs.Common.{ap, sym, subst, ◌∙◌, arith, ⊎_elim}
+use Rattle.std.proofs.Common.{◌≡◌, ◌≢◌, ℕ, suc, ◌+◌, ◌<◌, Bool, true, false, cond, List, [], ◌∷◌, ◌++◌, length, take, Option, Some, None, slice_get, slice_set, refl, ap, sym, subst, ◌∙◌, arith, ⊎_elim}
 use Rattle.std.proofs.lemmas.List.{append-nil, length-take-le}
-use Rattle.rx_base.specs.declared.ids.PlaceId.{PlaceId}
-use Rattle.rx_base.specs.declared.ids.TaskId.{TaskId}
+use Rattle.rx_rules.proofs.Common.{PlaceId, TaskId, Block, Allowed, opening, tree_of, births, births_of, Player, acted, Cells, Moves, Starts, StartsSo, birth_of, travels, started_by, moves_from, Given, plan_of, NoRoot, Term, Vars, child}
 use Rattle.rx_rules.specs.declared.entries.Act.{Act}
 use Rattle.rx_rules.specs.declared.entries.Act.TheVariants.{Arrive}
 use Rattle.rx_rules.specs.declared.entries.Entry.{Entry}
 use Rattle.rx_rules.specs.declared.entries.Entry.TheVariants.{Step}
 use Rattle.rx_rules.specs.declared.events.PlaceEvent.{PlaceEvent}
-use Rattle.rx_rules.specs.Code.{Block}
-use Rattle.rx_rules.specs.Entries.{Allowed}
-use Rattle.rx_rules.specs.Fold.{opening, tree_of, births, births_of}
-use Rattle.rx_rules.specs.Picked.{Player, acted}
-use Rattle.rx_rules.specs.Plays.{Cells, Moves, Starts, StartsSo, birth_of, travels, started_by, moves_from}
-use Rattle.rx_rules.specs.Run.{Given, plan_of, NoRoot}
-use Rattle.rx_rules.specs.Terms.{Term, Vars, child}
 use Rattle.rx_rules.proofs.Numbers.{next-tree}
 use Rattle.rx_runs.specs.Games.{fresh, Pairs}
 use Rattle.rx_runs.specs.Segments.{plan_left, InTime}

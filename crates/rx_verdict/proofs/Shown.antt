@@ -1,25 +1,15 @@
 -- Of a whole run the verdict is `run`.
-use Rattle.std.specs.Prelude.{◌≡◌, ◌⊎◌, ℕ, zero, suc, ◌+◌, ◌<◌, ◌≤◌, ◌==◌, Bool, true, false, cond, List, [], ◌∷◌, ◌++◌, length, take, Option, Some, None, slice_get, refl}
+use Rattle.std.proofs.Common.{◌≡◌, ◌⊎◌, ℕ, zero, suc, ◌+◌, ◌<◌, ◌≤◌, ◌==◌, Bool, true, false, cond, List, [], ◌∷◌, ◌++◌, length, take, Option, Some, None, slice_get, refl, ap, sym, subst, ◌∙◌, arith, inl, inr, ⊎_elim}
 use Rattle.std.specs.List.{filter_map, cons_option}
-use Rattle.std.proofs.Common.{ap, sym, subst, ◌∙◌, arith, inl, inr, ⊎_elim}
 use Rattle.std.proofs.lemmas.Bool.{cases_lt, cases_eq}
 use Rattle.std.proofs.lemmas.List.Sums.{sum_by-cons}
-use Rattle.rx_base.specs.declared.ids.PlaceId.{PlaceId}
-use Rattle.rx_base.specs.declared.ids.TaskId.{TaskId}
+use Rattle.rx_rules.proofs.Common.{PlaceId, TaskId, Block, Term, Vars, child, Tree, made, made_act, AllAllowed, opening, births, births_of, Cells, Moves, Starts, Plays, Begins, EachPlays, Birth, StartsSo, cell_of, journal_at, birth_of, birth_from, travels, moves_from, started_by, opening_state, Given, in_all, Event, plan_of, PlanKept, rest_of, EndsWithRoot, JournalOk, death_number, IsRun}
 use Rattle.rx_rules.specs.declared.entries.Act.{Act}
 use Rattle.rx_rules.specs.declared.entries.Act.TheVariants.{Open, At as Calls, Spawn, Arrive, Wait, Release, End, Print, Census}
 use Rattle.rx_rules.specs.declared.entries.Entry.{Entry}
 use Rattle.rx_rules.specs.declared.entries.Entry.TheVariants.{Step, Root, Death, Join}
 use Rattle.rx_rules.specs.declared.events.PlaceEvent.{PlaceEvent}
 use Rattle.rx_rules.specs.declared.events.PlaceEvent.TheVariants.{Done, Close}
-use Rattle.rx_rules.specs.Code.{Block}
-use Rattle.rx_rules.specs.Terms.{Term, Vars, child}
-use Rattle.rx_rules.specs.Tree.{Tree}
-use Rattle.rx_rules.specs.Entries.{made, made_act}
-use Rattle.rx_rules.specs.Fold.{AllAllowed, opening, births, births_of}
-use Rattle.rx_rules.specs.Plays.{Cells, Moves, Starts, Plays, Begins, EachPlays, Birth, StartsSo, cell_of, journal_at, birth_of, birth_from, travels, moves_from, started_by}
-use Rattle.rx_rules.specs.Store.{opening_state}
-use Rattle.rx_rules.specs.Run.{Given, in_all, Event, plan_of, PlanKept, rest_of, EndsWithRoot, JournalOk, death_number, IsRun}
 use Rattle.rx_rules.proofs.Numbers.{next-made}
 use Rattle.rx_sound.proofs.Births.{from-other, from-here, births-left}
 use Rattle.rx_runs.specs.Rooted.{RootIsLast}

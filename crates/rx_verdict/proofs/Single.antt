@@ -1,10 +1,8 @@
 -- Two verdicts on one pair are the same.
-use Rattle.std.specs.Prelude.{◌≡◌, ◌⊎◌, ℕ, zero, suc, ◌<◌, List, length, refl}
-use Rattle.std.proofs.Common.{ap, sym, arith, inl, inr, ⊎_elim}
+use Rattle.std.proofs.Common.{◌≡◌, ◌⊎◌, ℕ, zero, suc, ◌<◌, List, length, refl, ap, sym, arith, inl, inr, ⊎_elim}
 use Rattle.rx_rules.specs.declared.entries.Entry.{Entry}
 use Rattle.rx_rules.specs.declared.events.PlaceEvent.{PlaceEvent}
-use Rattle.rx_rules.specs.Code.{Block}
-use Rattle.rx_rules.specs.Run.{Given}
+use Rattle.rx_rules.proofs.Common.{Block, Given}
 use Rattle.rx_verdict.specs.declared.verdict.Verdict.{Verdict}
 use Rattle.rx_verdict.specs.declared.verdict.Verdict.TheVariants.{Run, Entry as AtEntry, End, Event, Open}
 use Rattle.rx_verdict.specs.Verdicts.{IsVerdict, OneVerdict, AllParts, Part, IsShut}

@@ -1,12 +1,10 @@
 -- What a script's tasks make asks for some words, where each `new` does.
-use Rattle.std.specs.Prelude.{◌≡◌, ℕ, zero, suc, ◌+◌, ◌<◌, ◌≤◌, Bool, true, false, cond, List, [], ◌∷◌, length, take, Option, Some, None, slice_get, refl}
+use Rattle.std.proofs.Common.{◌≡◌, ℕ, zero, suc, ◌+◌, ◌<◌, ◌≤◌, Bool, true, false, cond, List, [], ◌∷◌, length, take, Option, Some, None, slice_get, refl, ap, sym, subst, ◌∙◌, arith, ⊎_elim}
 use Rattle.std.specs.List.{filter_map, cons_option}
-use Rattle.std.proofs.Common.{ap, sym, subst, ◌∙◌, arith, ⊎_elim}
 use Rattle.std.proofs.lemmas.Bool.{cases_lt, eq-eqb}
 use Rattle.rx_base.proofs.Elements.{get-within}
 use Rattle.std.proofs.lemmas.Option.{slice_get_within}
-use Rattle.rx_base.specs.declared.ids.PlaceId.{PlaceId}
-use Rattle.rx_base.specs.declared.ids.TaskId.{TaskId}
+use Rattle.rx_rules.proofs.Common.{PlaceId, TaskId, Block, Term, Empty, Vars, Answer, Does, does, child, items, AllAllowed, opening, births, opens, Cells, Moves, Starts, Tells, StartsSo, brought, cell_of, journal_at, birth_of, travels, moves_from, Given}
 use Rattle.rx_rules.specs.declared.entries.Act.{Act}
 use Rattle.rx_rules.specs.declared.entries.Act.TheVariants.{Open, At as Calls, Spawn, Arrive, Wait, Release, End, Print, Census}
 use Rattle.rx_rules.specs.declared.entries.Entry.{Entry}
@@ -14,14 +12,8 @@ use Rattle.rx_rules.specs.declared.events.Cell.{Cell}
 use Rattle.rx_rules.specs.declared.events.Cell.TheVariants.{Make, MakeFull, Get, Put, Forget, GetRefused, PutRefused, ForgetStale}
 use Rattle.rx_rules.specs.declared.events.PlaceEvent.{PlaceEvent}
 use Rattle.rx_rules.specs.declared.events.PlaceEvent.TheVariants.{Done}
-use Rattle.rx_rules.specs.Code.{Block}
 use Rattle.rx_rules.specs.Terms as terms
-use Rattle.rx_rules.specs.Terms.{Term, Empty, Vars, Answer, Does, does, child, items}
-use Rattle.rx_rules.specs.Fold.{AllAllowed, opening, births}
-use Rattle.rx_rules.specs.Reached.{opens}
-use Rattle.rx_rules.specs.Plays.{Cells, Moves, Starts, Tells, StartsSo, brought, cell_of, journal_at, birth_of, travels, moves_from}
 use Rattle.rx_sound.proofs.Histories.{none_yet}
-use Rattle.rx_rules.specs.Run.{Given}
 use Rattle.rx_runs.specs.SomeWords.{MakesSome, TermMakesSome}
 use Rattle.rx_verdict.specs.Makes as parts
 use Rattle.rx_verdict.specs.Makes.{Makes, MakesEvent, StampRule, Landing, Made, cells_of}

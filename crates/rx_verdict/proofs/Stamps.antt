@@ -1,15 +1,10 @@
 -- Events whose stamps lie between the entries are made, whatever their stamps.
-use Rattle.std.specs.Prelude.{◌≡◌, ℕ, zero, suc, ◌<◌, ◌≤◌, length, List, [], Option, Some, None, slice_get}
-use Rattle.std.proofs.Common.{subst, arith, inl, inr, ⊎_elim}
+use Rattle.std.proofs.Common.{◌≡◌, ℕ, zero, suc, ◌<◌, ◌≤◌, length, List, [], Option, Some, None, slice_get, subst, arith, inl, inr, ⊎_elim}
 use Rattle.std.proofs.lemmas.Bool.{cases_lt}
-use Rattle.rx_base.specs.declared.ids.PlaceId.{PlaceId}
+use Rattle.rx_rules.proofs.Common.{PlaceId, Block, Cells, Moves, Starts, journal_at, birth_of, travels, moves_from, Given, Term, Vars}
 use Rattle.rx_rules.specs.declared.entries.Entry.{Entry}
 use Rattle.rx_rules.specs.declared.events.PlaceEvent.{PlaceEvent}
 use Rattle.rx_rules.specs.declared.events.PlaceEvent.TheVariants.{Done, Close}
-use Rattle.rx_rules.specs.Code.{Block}
-use Rattle.rx_rules.specs.Plays.{Cells, Moves, Starts, journal_at, birth_of, travels, moves_from}
-use Rattle.rx_rules.specs.Run.{Given}
-use Rattle.rx_rules.specs.Terms.{Term, Vars}
 use Rattle.rx_verdict.specs.Makes as parts
 use Rattle.rx_verdict.specs.Makes.{MakesEvent, AnyStamp, Between, TaskMakesEvent, cells_of}
 use Rattle.rx_verdict.specs.Verdicts.{CauseOf, HasCause, IsGood, Precedes, GoodBefore}

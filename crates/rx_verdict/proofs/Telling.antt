@@ -1,13 +1,8 @@
 -- The pass over the events.
-use Rattle.std.specs.Prelude.{◌≡◌, ℕ, suc, ◌+◌, List, [], ◌∷◌, ◌++◌, length, Some, refl}
-use Rattle.std.proofs.Common.{subst, arith}
-use Rattle.rx_base.specs.declared.ids.PlaceId.{PlaceId}
-use Rattle.rx_base.specs.declared.values.Fault.{Fault}
+use Rattle.std.proofs.Common.{◌≡◌, ℕ, suc, ◌+◌, List, [], ◌∷◌, ◌++◌, length, Some, refl, subst, arith}
+use Rattle.rx_rules.proofs.Common.{PlaceId, Fault, Player, Cells, Moves, Starts, Tells, Term, Vars, Answer, Does, Done, does, begins}
 use Rattle.rx_rules.specs.declared.events.Cell.{Cell}
-use Rattle.rx_rules.specs.Picked.{Player}
-use Rattle.rx_rules.specs.Plays.{Cells, Moves, Starts, Tells}
 use Rattle.rx_runs.specs.AnyAnswers.{AsksStore}
-use Rattle.rx_rules.specs.Terms.{Term, Vars, Answer, Does, Done, does, begins}
 use Rattle.rx_verdict.specs.Makes as parts
 use Rattle.rx_verdict.specs.Makes.{MakesEvent, StampRule, KeepsRule}
 use Rattle.rx_verdict.specs.Walks as walks

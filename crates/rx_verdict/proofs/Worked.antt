@@ -1,10 +1,7 @@
 -- The worked journals are lawful as far as they are told to be.
-use Rattle.std.specs.Prelude.{◌≡◌, ℕ, true, [], refl}
-use Rattle.std.proofs.Common.{sym, arith}
+use Rattle.std.proofs.Common.{◌≡◌, ℕ, true, [], refl, sym, arith}
 use Rattle.std.proofs.lemmas.Bool.{true≢false}
-use Rattle.rx_rules.specs.Plays.{journal_at}
-use Rattle.rx_rules.specs.Store.{State, IsLeastFree, fits}
-use Rattle.rx_rules.specs.Examples.{stale_reference_journals, full_heap_journals}
+use Rattle.rx_rules.proofs.Common.{journal_at, State, IsLeastFree, fits, stale_reference_journals, full_heap_journals}
 use Rattle.rx_rules.proofs.Worked.{stale_reference_runs, full_heap_runs}
 use Rattle.rx_verdict.specs.Lawful.{AreLawful, IsLawfulCount}
 use Rattle.rx_verdict.specs.Worked.{WorkedCounts, called_outside, made_of_nothing, fallen_stamp, asked_when_closed}

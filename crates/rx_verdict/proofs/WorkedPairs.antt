@@ -1,23 +1,15 @@
 -- The worked pairs have their verdicts.
-use Rattle.std.specs.Prelude.{◌≡◌, ℕ, zero, suc, ◌<◌, ◌≤◌, pos, true, false, List, [], ◌∷◌, length, take, Option, Some, slice_get, refl}
-use Rattle.std.proofs.Common.{subst, arith, lit<, lit≤, ⊎_elim}
-use Rattle.rx_base.specs.declared.values.Value.TheVariants.{Ref}
-use Rattle.rx_base.specs.declared.values.Fault.TheVariants.{Stale, Index}
+use Rattle.std.proofs.Common.{◌≡◌, ℕ, zero, suc, ◌<◌, ◌≤◌, pos, true, false, List, [], ◌∷◌, length, take, Option, Some, slice_get, refl, subst, arith, lit<, lit≤, ⊎_elim}
+use Rattle.rx_rules.proofs.Common.{Ref, Stale, Index, Block, Nothing, Then, Num, Print as Prints, Term, Vars, no_vars, Empty, items, Gives, Fine, Fails, Starts, journal_at, Given, IsRun, p, ordinary_script, stale_script, ordinary_setup, kill_setup, ordinary_case, ordinary_case_journals, loss_in_transit, stale_reference, stale_reference_journals, GlobalRef}
 use Rattle.rx_rules.specs.declared.entries.Act.TheVariants.{End}
 use Rattle.rx_rules.specs.declared.entries.Entry.{Entry}
 use Rattle.rx_rules.specs.declared.events.PlaceEvent.{PlaceEvent}
-use Rattle.rx_rules.specs.Code.{Block, Nothing, Then, Num, Print as Prints}
-use Rattle.rx_rules.specs.Terms.{Term, Vars, no_vars, Empty, items, Gives, Fine, Fails}
-use Rattle.rx_rules.specs.Plays.{Starts, journal_at}
-use Rattle.rx_rules.specs.Run.{Given, IsRun}
-use Rattle.rx_rules.specs.Examples.{p, ordinary_script, stale_script, ordinary_setup, kill_setup, ordinary_case, ordinary_case_journals, loss_in_transit, stale_reference, stale_reference_journals}
 use Rattle.rx_rules.proofs.Worked.{ordinary_case_runs, loss_in_transit_runs, stale_reference_runs, at_front}
 use Rattle.rx_verdict.specs.declared.verdict.Verdict.TheVariants.{Run, Entry as AtEntry, End as NoEnd, Event, Open}
 use Rattle.rx_verdict.specs.Makes as parts
 use Rattle.rx_verdict.specs.Makes.{Made, Between, KeepsRule, TaskMakesEvent}
 use Rattle.rx_verdict.specs.Verdicts.{Part, IsMade, IsVerdict, AllGood, GoodBefore, IsShut}
 use Rattle.rx_verdict.specs.Rows.{exchanged, no_events, closed_at, wrong_refusal, heaps_of, new_script, new_case, stamped}
-use Rattle.rx_base.specs.declared.ids.GlobalRef.{GlobalRef}
 use Rattle.rx_rules.specs.declared.events.Cell.TheVariants.{Make}
 use Rattle.rx_rules.specs.Plays as plays
 use Rattle.rx_runs.specs.Games.{fresh}

@@ -1,28 +1,18 @@
 -- The players after a request.
-use Rattle.std.specs.Prelude.{◌≡◌, ◌⊎◌, ℕ, suc, ◌+◌, ◌<◌, ◌≤◌, ◌^◌, ◌==◌, not, cond, Bool, true, false, List, [], ◌∷◌, ◌++◌, length, take, drop, Option, Some, None, option_to_list, slice_set, refl}
+use Rattle.std.proofs.Common.{◌≡◌, ◌⊎◌, ℕ, suc, ◌+◌, ◌<◌, ◌≤◌, ◌^◌, ◌==◌, not, cond, Bool, true, false, List, [], ◌∷◌, ◌++◌, length, take, drop, Option, Some, None, option_to_list, slice_set, refl, ap, sym, subst, ◌∙◌, arith, inl, inr, ⊎_elim}
 use Rattle.std.specs.Global.{Box}
 use Rattle.std.specs.List.{filter_map}
-use Rattle.std.proofs.Common.{ap, sym, subst, ◌∙◌, arith, inl, inr, ⊎_elim}
 use Rattle.std.proofs.lemmas.Bool.{eq-eqb}
 use Rattle.std.proofs.lemmas.List.{append-nil, length-set}
 use Rattle.std.proofs.lemmas.Option.{slice_get_within}
-use Rattle.rx_base.specs.declared.ids.PlaceId.{PlaceId}
-use Rattle.rx_base.specs.declared.ids.TaskId.{TaskId}
-use Rattle.rx_base.specs.declared.ids.ScopeId.{ScopeId}
+use Rattle.rx_rules.proofs.Common.{PlaceId, TaskId, ScopeId, Block, AllowedAct, made_act, births, tree_of, Player, acted, Birth, Cells, birth_in, birth_of, cell_of, journal_at, moves_from, started_by, travels, vars_told, Given, Folds, Term, Vars, Does, Counts, child, Tree}
 use Rattle.rx_base.proofs.Elements.{length-push}
 use Rattle.rx_rules.specs.declared.entries.Act.{Act}
 use Rattle.rx_rules.specs.declared.entries.Act.TheVariants.{At as Called, Spawn, Census}
 use Rattle.rx_rules.specs.declared.entries.Entry.{Entry}
 use Rattle.rx_rules.specs.declared.entries.Entry.TheVariants.{Step}
 use Rattle.rx_rules.specs.declared.events.PlaceEvent.{PlaceEvent}
-use Rattle.rx_rules.specs.Code.{Block}
-use Rattle.rx_rules.specs.Entries.{AllowedAct, made_act}
-use Rattle.rx_rules.specs.Fold.{births, tree_of}
-use Rattle.rx_rules.specs.Picked.{Player, acted}
-use Rattle.rx_rules.specs.Plays.{Birth, Cells, Fits, birth_in, birth_of, cell_of, journal_at, moves_from, started_by, travels, vars_told}
-use Rattle.rx_rules.specs.Run.{Given, Folds}
-use Rattle.rx_rules.specs.Terms.{Term, Vars, Does, Counts, child}
-use Rattle.rx_rules.specs.Tree.{Tree}
+use Rattle.rx_rules.specs.Plays.{Fits}
 use Rattle.rx_rules.proofs.Append.{joins_in, tree-places, tree-push}
 use Rattle.rx_rules.proofs.Numbers.{next-tree}
 use Rattle.rx_sound.specs.Histories.{FoldReached}

@@ -1,20 +1,13 @@
 -- The births, homes and entries of tasks, and the places, after one entry more.
-use Rattle.std.specs.Prelude.{◌≡◌, ◌≢◌, ◌⊎◌, ℕ, suc, ◌+◌, ◌<◌, ◌≤◌, List, [], ◌∷◌, ◌++◌, length, Option, Some, None, refl}
-use Rattle.std.proofs.Common.{ap, sym, subst, ◌∙◌, arith, ⊎_elim}
+use Rattle.std.proofs.Common.{◌≡◌, ◌≢◌, ◌⊎◌, ℕ, suc, ◌+◌, ◌<◌, ◌≤◌, List, [], ◌∷◌, ◌++◌, length, Option, Some, None, refl, ap, sym, subst, ◌∙◌, arith, ⊎_elim}
 use Rattle.std.proofs.lemmas.List.Sums.{sum_by-cons}
-use Rattle.rx_base.specs.declared.ids.TaskId.{TaskId}
+use Rattle.rx_rules.proofs.Common.{TaskId, Block, AllowedAct, made, made_act, AllAllowed, opening, tree_of, births, births_of, Birth, Moves, birth_in, birth_of, moves_from, started_by, Given, Tree}
 use Rattle.rx_base.proofs.Elements.{get-within}
 use Rattle.rx_rules.specs.declared.entries.Act.{Act}
 use Rattle.rx_rules.specs.declared.entries.Act.TheVariants.{At as Calls, Spawn}
 use Rattle.rx_rules.specs.declared.entries.Entry.{Entry}
 use Rattle.rx_rules.specs.declared.entries.Entry.TheVariants.{Step, Root, Death, Join}
 use Rattle.rx_rules.specs.declared.events.PlaceEvent.{PlaceEvent}
-use Rattle.rx_rules.specs.Code.{Block}
-use Rattle.rx_rules.specs.Entries.{AllowedAct, made, made_act}
-use Rattle.rx_rules.specs.Fold.{AllAllowed, opening, tree_of, births, births_of}
-use Rattle.rx_rules.specs.Plays.{Birth, Moves, birth_in, birth_of, moves_from, started_by}
-use Rattle.rx_rules.specs.Run.{Given}
-use Rattle.rx_rules.specs.Tree.{Tree}
 use Rattle.rx_rules.proofs.Append.{act-places, tree-push}
 use Rattle.rx_rules.proofs.Numbers.{next-tree}
 use Rattle.rx_sound.specs.Histories.{FoldReached}

@@ -1,13 +1,11 @@
 -- The walk before an entry of a task, and the players after it where the task makes no entry.
-use Rattle.std.specs.Prelude.{◌≡◌, ◌≢◌, ℕ, suc, ◌+◌, ◌<◌, ◌≤◌, ◌^◌, Bool, cond, Some, None, List, [], ◌∷◌, length, take, drop, slice_get, refl}
+use Rattle.std.proofs.Common.{◌≡◌, ◌≢◌, ℕ, suc, ◌+◌, ◌<◌, ◌≤◌, ◌^◌, Bool, cond, Some, None, List, [], ◌∷◌, length, take, drop, slice_get, refl, ap, sym, subst, ◌∙◌, arith}
 use Rattle.std.specs.Global.{Box}
 use Rattle.std.specs.List.{cons_option}
-use Rattle.std.proofs.Common.{ap, sym, subst, ◌∙◌, arith}
 use Rattle.std.proofs.lemmas.Bool.{eq-eqb}
 use Rattle.std.proofs.lemmas.List.{length-take-le}
 use Rattle.std.proofs.lemmas.Option.{slice_get_within}
-use Rattle.rx_base.specs.declared.ids.PlaceId.{PlaceId}
-use Rattle.rx_base.specs.declared.ids.TaskId.{TaskId}
+use Rattle.rx_rules.proofs.Common.{PlaceId, TaskId, Block, tree_of, Player, Moves, moves_from, Given, Done}
 use Rattle.rx_base.proofs.Elements.{get-within}
 use Rattle.rx_base.proofs.SameIds.{task-is}
 use Rattle.rx_rules.specs.declared.entries.Act.{Act}
@@ -15,12 +13,6 @@ use Rattle.rx_rules.specs.declared.entries.Act.TheVariants.{Arrive}
 use Rattle.rx_rules.specs.declared.entries.Entry.{Entry}
 use Rattle.rx_rules.specs.declared.entries.Entry.TheVariants.{Step}
 use Rattle.rx_rules.specs.declared.events.PlaceEvent.{PlaceEvent}
-use Rattle.rx_rules.specs.Code.{Block}
-use Rattle.rx_rules.specs.Fold.{tree_of}
-use Rattle.rx_rules.specs.Picked.{Player}
-use Rattle.rx_rules.specs.Plays.{Moves, moves_from}
-use Rattle.rx_rules.specs.Run.{Given}
-use Rattle.rx_rules.specs.Terms.{Done}
 use Rattle.rx_runs.specs.AnyAnswers.{AsksStore}
 use Rattle.rx_sound.specs.Histories.{FoldReached}
 use Rattle.rx_ledger.specs.TermAsks.{MayAskAct}

@@ -1,14 +1,10 @@
 -- The players after an entry that needs no request, and after a no.
-use Rattle.std.specs.Prelude.{◌≡◌, ◌≢◌, ◌⊎◌, ℕ, suc, ◌+◌, ◌<◌, ◌≤◌, Bool, List, [], ◌∷◌, ◌++◌, length, take, drop, Some, slice_get, slice_set, refl}
+use Rattle.std.proofs.Common.{◌≡◌, ◌≢◌, ◌⊎◌, ℕ, suc, ◌+◌, ◌<◌, ◌≤◌, Bool, List, [], ◌∷◌, ◌++◌, length, take, drop, Some, slice_get, slice_set, refl, ap, sym, subst, ◌∙◌, arith, inl}
 use Rattle.std.specs.Global.{Box}
 use Rattle.std.specs.List.{filter_map}
-use Rattle.std.proofs.Common.{ap, sym, subst, ◌∙◌, arith, inl}
 use Rattle.std.proofs.lemmas.List.{append-nil, length-set, length-take-le}
 use Rattle.std.proofs.lemmas.Option.{slice_get_within}
-use Rattle.rx_base.specs.declared.ids.PlaceId.{PlaceId}
-use Rattle.rx_base.specs.declared.ids.TaskId.{TaskId}
-use Rattle.rx_base.specs.declared.ids.ScopeId.{ScopeId}
-use Rattle.rx_base.specs.declared.values.Fault.{Fault}
+use Rattle.rx_rules.proofs.Common.{PlaceId, TaskId, ScopeId, Fault, Block, AllowedAct, births, tree_of, Reached, Player, cell_of, journal_at, Given, Term, Vars, Done, does}
 use Rattle.rx_base.proofs.Elements.{get-within}
 use Rattle.rx_rules.specs.declared.entries.Act.{Act}
 use Rattle.rx_rules.specs.declared.entries.Act.TheVariants.{Arrive, End}
@@ -16,14 +12,6 @@ use Rattle.rx_rules.specs.declared.entries.Entry.{Entry}
 use Rattle.rx_rules.specs.declared.entries.Entry.TheVariants.{Step, Root, Death, Join}
 use Rattle.rx_rules.specs.declared.tasks.Where.TheVariants.{At}
 use Rattle.rx_rules.specs.declared.events.PlaceEvent.{PlaceEvent}
-use Rattle.rx_rules.specs.Code.{Block}
-use Rattle.rx_rules.specs.Entries.{AllowedAct}
-use Rattle.rx_rules.specs.Fold.{births, tree_of}
-use Rattle.rx_rules.specs.Reached.{Reached}
-use Rattle.rx_rules.specs.Picked.{Player}
-use Rattle.rx_rules.specs.Plays.{cell_of, journal_at}
-use Rattle.rx_rules.specs.Run.{Given}
-use Rattle.rx_rules.specs.Terms.{Term, Vars, Done, does}
 use Rattle.rx_sound.specs.Histories.{FoldReached}
 use Rattle.rx_runs.specs.Games.{fresh}
 use Rattle.rx_chronicle.specs.Told.{parents_by, parents_in, parents_told}

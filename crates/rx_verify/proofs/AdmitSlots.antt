@@ -1,17 +1,13 @@
 -- Slots and the seats of the pass, where one changes or one is added.
-use Rattle.std.specs.Prelude.{◌≡◌, ◌≢◌, ℕ, zero, suc, ◌<◌, ◌≤◌, List, [], ◌∷◌, ◌++◌, length, Some, get_or, slice_get, slice_set, refl}
+use Rattle.std.proofs.Common.{◌≡◌, ◌≢◌, ℕ, zero, suc, ◌<◌, ◌≤◌, List, [], ◌∷◌, ◌++◌, length, Some, get_or, slice_get, slice_set, refl, ap, sym, subst, ◌∙◌, arith, ⊎_elim}
 use Rattle.std.specs.Global.{Box}
 use Rattle.std.specs.List.{filter_map}
-use Rattle.std.proofs.Common.{ap, sym, subst, ◌∙◌, arith, ⊎_elim}
 use Rattle.std.proofs.lemmas.Bool.{cases_eq, cases_lt}
 use Rattle.std.proofs.lemmas.Option.{slice_get_within, slice_get_read}
-use Rattle.rx_base.specs.declared.ids.PlaceId.{PlaceId}
+use Rattle.rx_rules.proofs.Common.{PlaceId, Player, Cells, cell_of, journal_at, Term, Vars}
 use Rattle.rx_base.proofs.Elements.{get-last, get-set, length-push}
 use Rattle.rx_rules.specs.declared.entries.Entry.{Entry}
 use Rattle.rx_rules.specs.declared.events.PlaceEvent.{PlaceEvent}
-use Rattle.rx_rules.specs.Picked.{Player}
-use Rattle.rx_rules.specs.Plays.{Cells, cell_of, journal_at}
-use Rattle.rx_rules.specs.Terms.{Term, Vars}
 use Rattle.rx_runs.specs.Games.{fresh}
 use Rattle.rx_syntax.specs.Shape.{Shape}
 use Rattle.rx_verdict.specs.Makes.{cells_of}

@@ -1,17 +1,9 @@
 -- What a ledger keeps, with one entry more.
-use Rattle.std.specs.Prelude.{◌≡◌, ℕ, suc, ◌+◌, ◌-◌, ◌≤◌, true, false, List, [], ◌∷◌, ◌++◌, length, refl}
-use Rattle.std.proofs.Common.{ap, ◌∙◌, sym, subst, arith}
-use Rattle.rx_base.specs.declared.ids.TaskId.{TaskId}
-use Rattle.rx_base.specs.declared.ids.PlaceId.{PlaceId}
-use Rattle.rx_base.specs.declared.values.Fault.{Fault}
-use Rattle.rx_base.specs.declared.place_set.PlaceSet.{PlaceSet}
+use Rattle.std.proofs.Common.{◌≡◌, ℕ, suc, ◌+◌, ◌-◌, ◌≤◌, true, false, List, [], ◌∷◌, ◌++◌, length, refl, ap, ◌∙◌, sym, subst, arith}
+use Rattle.rx_rules.proofs.Common.{TaskId, PlaceId, Fault, PlaceSet, Tree, the_root, AllowedAct, Allowed, made_act, without, strike, widened, opening, tree_of, Given, Event, Folds, IsDue, NoneDue, rest_of, in_all, plan_of}
 use Rattle.rx_rules.specs.declared.entries.Act.{Act}
 use Rattle.rx_rules.specs.declared.entries.Entry.{Entry}
 use Rattle.rx_rules.specs.declared.entries.Entry.TheVariants.{Step, Root, Death, Join}
-use Rattle.rx_rules.specs.Tree.{Tree, the_root}
-use Rattle.rx_rules.specs.Entries.{AllowedAct, Allowed, made_act, without, strike, widened}
-use Rattle.rx_rules.specs.Fold.{opening, tree_of}
-use Rattle.rx_rules.specs.Run.{Given, Event, Folds, IsDue, NoneDue, rest_of, in_all, plan_of}
 use Rattle.rx_rules.proofs.Append.{tree-push, root-push, act-places, no_root-push, no_root-death}
 use Rattle.rx_sound.specs.Histories.{DeadAsTold}
 use Rattle.rx_runs.specs.Segments.{plan_left, InTime}

@@ -1,23 +1,13 @@
 -- A release that the ledger makes is the one that an entry tells.
-use Rattle.std.specs.Prelude.{◌≡◌, ℕ, ◌<◌, ◌^◌, Bool, true, false, not, ◌==◌, List, Some, None, refl}
-use Rattle.std.proofs.Common.{ap, ◌∙◌, sym, subst}
+use Rattle.std.proofs.Common.{◌≡◌, ℕ, ◌<◌, ◌^◌, Bool, true, false, not, ◌==◌, List, Some, None, refl, ap, ◌∙◌, sym, subst, Result, Ok, Err, IfOk}
 use Rattle.std.proofs.lemmas.Bool.{true≢false, eq-eqb, eqb-true}
 use Rattle.rx_base.proofs.SameIds.{scope-is}
-use Rattle.rx_base.specs.Sets.{MembersMakeTheSet}
-use Rattle.rx_base.specs.declared.ids.ScopeId.{ScopeId}
-use Rattle.rx_base.specs.declared.ids.TaskId.{TaskId}
-use Rattle.rx_base.specs.declared.place_set.PlaceSet.{PlaceSet}
-use Rattle.rx_base.specs.declared.values.Fault.{Fault}
+use Rattle.rx_rules.proofs.Common.{MembersMakeTheSet, ScopeId, TaskId, PlaceSet, Fault, Tree, quiet, AllowedAct, Unstruck, MayFree, NoMemory as NoRoom, made_act}
 use Rattle.rx_rules.specs.declared.entries.Act.TheVariants.{Release}
 use Rattle.rx_rules.specs.declared.tasks.Task.{Task}
-use Rattle.rx_rules.specs.Tree.{Tree, quiet}
-use Rattle.rx_rules.specs.Entries.{AllowedAct, Unstruck, MayFree}
 use Rattle.rx_finish.specs.declared.ledger.Caller.{Caller}
 use Rattle.rx_finish.specs.declared.ledger.Outcome.{Outcome}
-use Rattle.std.specs.Prelude.{Result, Ok, Err, IfOk}
-use Rattle.rx_base.specs.declared.failures.NoMemory.{NoMemory as NoRoom}
 use Rattle.rx_rules.specs.declared.tasks.Blow.{Blow}
-use Rattle.rx_rules.specs.Entries.{made_act}
 use Rattle.rx_finish.specs.declared.ledger.LedgerFault.{LedgerFault}
 use Rattle.rx_finish.specs.declared.ledger.LedgerFault.TheVariants.{NotYet, Lost, NoMemory}
 use Rattle.rx_finish.specs.Calls.{blow_of, Did, ReleaseReply}

@@ -1,14 +1,8 @@
 -- What an answered call tells.
-use Rattle.std.specs.Prelude.{◌≡◌, ℤ, Bool, cond}
-use Rattle.std.proofs.Common.{ap, sym, subst}
-use Rattle.rx_base.specs.declared.ids.PlaceId.{PlaceId}
-use Rattle.rx_base.specs.declared.ids.GlobalRef.{GlobalRef}
-use Rattle.rx_base.specs.declared.values.Fault.{Fault}
-use Rattle.rx_base.specs.declared.values.Fault.TheVariants.{Stale, Index}
+use Rattle.std.proofs.Common.{◌≡◌, ℤ, Bool, cond, ap, sym, subst}
+use Rattle.rx_rules.proofs.Common.{PlaceId, GlobalRef, Fault, Stale, Index, Does, Local, Makes as Creates, Gets as Reading, Puts as Writing, Forgets as Freeing, Opens, Calls as Asks, Spawns, Waits, Releases, Prints, Counts, Done, Answer, Fails, Tells}
 use Rattle.rx_rules.specs.declared.events.Cell.{Cell}
 use Rattle.rx_rules.specs.declared.events.Cell.TheVariants.{GetRefused, PutRefused}
-use Rattle.rx_rules.specs.Terms.{Does, Local, Makes as Creates, Gets as Reading, Puts as Writing, Forgets as Freeing, Opens, Calls as Asks, Spawns, Waits, Releases, Prints, Counts, Done, Answer, Fails}
-use Rattle.rx_rules.specs.Plays.{Tells}
 
 -- a refused get or put tells its fault, whatever name waits
 tells_get_refused : (d : Does) (here : PlaceId) (r : GlobalRef) (i : ℤ) (stale : Bool) (f : Fault) (a : Answer) → f ≡ cond stale Stale Index → Tells d here (GetRefused r i stale) a → Tells d here (GetRefused r i stale) (Fails f)

@@ -1,18 +1,10 @@
 -- What an audit keeps, with one entry more.
-use Rattle.std.specs.Prelude.{◌≡◌, ℕ, suc, ◌+◌, ◌-◌, ◌<◌, ◌^◌, Bool, true, false, List, [], ◌∷◌, ◌++◌, length, refl}
-use Rattle.std.proofs.Common.{ap, ◌∙◌, sym, subst, arith, length-append}
+use Rattle.std.proofs.Common.{◌≡◌, ℕ, suc, ◌+◌, ◌-◌, ◌<◌, ◌^◌, Bool, true, false, List, [], ◌∷◌, ◌++◌, length, refl, ap, ◌∙◌, sym, subst, arith, length-append, Err}
 use Rattle.std.proofs.lemmas.Bool.{true≢false}
-use Rattle.rx_base.specs.Sets.{MembersMakeTheSet}
-use Rattle.rx_base.specs.declared.ids.PlaceId.{PlaceId}
-use Rattle.rx_base.specs.declared.values.Fault.{Fault}
-use Rattle.rx_base.specs.declared.place_set.PlaceSet.{PlaceSet}
+use Rattle.rx_rules.proofs.Common.{MembersMakeTheSet, PlaceId, Fault, PlaceSet, Tree, the_root, AllowedAct, Allowed, MayFree, made_act, without, strike, widened, opening, tree_of, Given, Event, IsDue, NoneDue, NoRoot, EndsWithRoot, rest_of, in_all, plan_of, Proper}
 use Rattle.rx_rules.specs.declared.entries.Act.{Act}
 use Rattle.rx_rules.specs.declared.entries.Entry.{Entry}
 use Rattle.rx_rules.specs.declared.entries.Entry.TheVariants.{Step, Root, Death, Join}
-use Rattle.rx_rules.specs.Tree.{Tree, the_root}
-use Rattle.rx_rules.specs.Entries.{AllowedAct, Allowed, MayFree, made_act, without, strike, widened}
-use Rattle.rx_rules.specs.Fold.{opening, tree_of}
-use Rattle.rx_rules.specs.Run.{Given, Event, IsDue, NoneDue, NoRoot, EndsWithRoot, rest_of, in_all, plan_of, Proper}
 use Rattle.rx_sound.specs.Histories.{DeadAsTold}
 use Rattle.rx_runs.specs.Ties.{MayCome}
 use Rattle.rx_runs.proofs.Plans.{plan_comes}
@@ -23,7 +15,6 @@ use Rattle.rx_chronicle.specs.Told.{Ending, left_to_join}
 use Rattle.rx_verify.specs.declared.audit.Audit.{Audit}
 use Rattle.rx_verify.specs.Inside.Deciding.{Decides}
 use Rattle.rx_verify.specs.Inside.Admits.{Admits, LedgerIs, AuditIs}
-use Rattle.std.specs.Prelude.{Err}
 use Rattle.rx_finish.specs.declared.ledger.LedgerFault.{LedgerFault}
 use Rattle.rx_finish.specs.declared.ledger.LedgerFault.TheVariants.{NotYet, Lost, NoMemory}
 use Rattle.rx_finish.specs.Calls.{RootReply}

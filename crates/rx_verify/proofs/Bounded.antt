@@ -1,14 +1,9 @@
 -- A part of a run has few entries.
-use Rattle.std.specs.Prelude.{ℕ, suc, ◌+◌, ◌<◌, ◌≤◌, ◌^◌, Bool, true, false, List, [], ◌∷◌, length, refl}
-use Rattle.std.proofs.Common.{arith}
-use Rattle.rx_base.specs.declared.ids.PlaceId.{PlaceId}
+use Rattle.std.proofs.Common.{ℕ, suc, ◌+◌, ◌<◌, ◌≤◌, ◌^◌, Bool, true, false, List, [], ◌∷◌, length, refl, arith}
+use Rattle.rx_rules.proofs.Common.{PlaceId, Block, work, Term, Vars, does, Cells, Moves, Starts, birth_of, travels, moves_from, Given, Proper, Folds}
 use Rattle.rx_rules.specs.declared.entries.Act.TheVariants.{Open, At as Calls, Spawn, Arrive, Wait, Release, End, Print, Census}
 use Rattle.rx_rules.specs.declared.entries.Entry.{Entry}
 use Rattle.rx_rules.specs.declared.events.PlaceEvent.{PlaceEvent}
-use Rattle.rx_rules.specs.Code.{Block, work}
-use Rattle.rx_rules.specs.Terms.{Term, Vars, does}
-use Rattle.rx_rules.specs.Plays.{Cells, Moves, Starts, birth_of, travels, moves_from}
-use Rattle.rx_rules.specs.Run.{Given, Proper, Folds}
 use Rattle.rx_runs.proofs.Paying.{tells_store}
 use Rattle.rx_runs.specs.AnyAnswers.{Works, local, answers, asks, ends, stops, BeginsWork, EachWorks, MadeIn, MadeBounded, sum_of}
 use Rattle.rx_verdict.specs.Makes as makes

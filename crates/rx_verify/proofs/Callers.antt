@@ -1,10 +1,7 @@
 -- Who the tasks are to the ledger, and what they may ask for, after a walk and after one entry more.
-use Rattle.std.specs.Prelude.{◌≡◌, ℕ, ◌+◌, ◌<◌, ◌≤◌, ◌^◌, ◌==◌, Bool, true, false, cond, List, [], ◌∷◌, ◌++◌, reverse, length, refl}
+use Rattle.std.proofs.Common.{◌≡◌, ℕ, ◌+◌, ◌<◌, ◌≤◌, ◌^◌, ◌==◌, Bool, true, false, cond, List, [], ◌∷◌, ◌++◌, reverse, length, refl, ap, sym, subst, ◌∙◌, arith, length-append}
 use Rattle.std.specs.Global.{Box}
-use Rattle.std.proofs.Common.{ap, sym, subst, ◌∙◌, arith, length-append}
-use Rattle.rx_base.specs.declared.ids.PlaceId.{PlaceId}
-use Rattle.rx_base.specs.declared.ids.ScopeId.{ScopeId}
-use Rattle.rx_base.specs.declared.ids.TaskId.{TaskId}
+use Rattle.rx_rules.proofs.Common.{PlaceId, ScopeId, TaskId, Block, Allowed, AllowedAct, made, made_act, tree_of, Player, Starts, Cells, Moves, Tells, brought, Reached, Given, Folds, Term, Vars, Does, Local, Releases, Empty, granted, items, Tree, the_root}
 use Rattle.rx_base.proofs.SameIds.{task-is}
 use Rattle.rx_rules.specs.declared.entries.Act.{Act}
 use Rattle.rx_rules.specs.declared.entries.Act.TheVariants.{Open, At as Called, Spawn, Arrive, Wait, Release, End, Print, Census}
@@ -13,15 +10,7 @@ use Rattle.rx_rules.specs.declared.entries.Entry.TheVariants.{Step, Root, Death,
 use Rattle.rx_rules.specs.declared.events.PlaceEvent.{PlaceEvent}
 use Rattle.rx_rules.specs.declared.tasks.Kind.{Kind}
 use Rattle.rx_rules.specs.declared.tasks.Where.TheVariants.{At, Travel}
-use Rattle.rx_rules.specs.Code.{Block}
-use Rattle.rx_rules.specs.Entries.{Allowed, AllowedAct, made, made_act}
-use Rattle.rx_rules.specs.Fold.{tree_of}
-use Rattle.rx_rules.specs.Picked.{Player}
-use Rattle.rx_rules.specs.Plays.{Starts, Cells, Moves, Fits, Tells, brought}
-use Rattle.rx_rules.specs.Reached.{Reached}
-use Rattle.rx_rules.specs.Run.{Given, Folds}
-use Rattle.rx_rules.specs.Terms.{Term, Vars, Does, Local, Releases, Empty, granted, items}
-use Rattle.rx_rules.specs.Tree.{Tree, the_root}
+use Rattle.rx_rules.specs.Plays.{Fits}
 use Rattle.rx_rules.proofs.Append.{tree-push}
 use Rattle.rx_runs.specs.Games.{fresh}
 use Rattle.rx_finish.specs.declared.ledger.Caller.{Caller}

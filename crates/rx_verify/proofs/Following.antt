@@ -1,13 +1,11 @@
 -- The next event of a task in a journal.
-use Rattle.std.specs.Prelude.{◌≡◌, ℕ, zero, suc, ◌≤◌, Bool, cond, List, [], ◌∷◌, drop, length, Some, None, slice_get, refl}
+use Rattle.std.proofs.Common.{◌≡◌, ℕ, zero, suc, ◌≤◌, Bool, cond, List, [], ◌∷◌, drop, length, Some, None, slice_get, refl, ap, ◌∙◌, arith}
 use Rattle.std.specs.List.{filter_map, cons_option}
-use Rattle.std.proofs.Common.{ap, ◌∙◌, arith}
 use Rattle.std.proofs.lemmas.Bool.{eq-eqb}
-use Rattle.rx_base.specs.declared.ids.TaskId.{TaskId}
+use Rattle.rx_rules.proofs.Common.{TaskId, Cells, cell_of}
 use Rattle.rx_rules.specs.declared.events.Cell.{Cell}
 use Rattle.rx_rules.specs.declared.events.PlaceEvent.{PlaceEvent}
 use Rattle.rx_rules.specs.declared.events.PlaceEvent.TheVariants.{Done}
-use Rattle.rx_rules.specs.Plays.{Cells, cell_of}
 
 pub past_event : (t : ℕ) (j : List PlaceEvent) (e : ℕ) (x : PlaceEvent) → slice_get j e ≡ Some x → filter_map (cell_of t) (drop e j) ≡ cons_option (cell_of t x) (filter_map (cell_of t) (drop (suc e) j))
 past_event t [] e x h = absurd (let f : ⊥ = cc in f)

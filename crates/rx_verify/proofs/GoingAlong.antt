@@ -1,11 +1,9 @@
 -- The statements that were begun so far beside a batch, where one more is begun.
-use Rattle.std.specs.Prelude.{◌≡◌, ℕ, zero, suc, ◌+◌, ◌<◌, Bool, true, false, List, [], ◌∷◌, ◌++◌, length, take, Option, Some, None, slice_get, refl}
-use Rattle.std.proofs.Common.{ap, sym, ◌∙◌, arith, append_assoc, append-nil}
+use Rattle.std.proofs.Common.{◌≡◌, ℕ, zero, suc, ◌+◌, ◌<◌, Bool, true, false, List, [], ◌∷◌, ◌++◌, length, take, Option, Some, None, slice_get, refl, ap, sym, ◌∙◌, arith, append_assoc, append-nil}
 use Rattle.std.proofs.lemmas.Bool.{true≢false}
 use Rattle.std.proofs.lemmas.List.{length-take-le}
 use Rattle.rx_base.proofs.Elements.{get-last, get-more}
-use Rattle.rx_rules.specs.Plays.{begun}
-use Rattle.rx_rules.specs.Terms.{Term, begins}
+use Rattle.rx_rules.proofs.Common.{begun, Term, begins}
 use Rattle.rx_verify.specs.declared.along.Along.{Along}
 use Rattle.rx_verify.specs.Along.{GoesAlong}
 

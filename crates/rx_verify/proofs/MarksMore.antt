@@ -1,13 +1,11 @@
 -- Marks on one event of a task after the other.
-use Rattle.std.specs.Prelude.{◌≡◌, ◌↔◌, ℕ, suc, ◌+◌, ◌<◌, ◌≤◌, Bool, true, false, List, length, drop, Option, Some, slice_get, refl}
+use Rattle.std.proofs.Common.{◌≡◌, ◌↔◌, ℕ, suc, ◌+◌, ◌<◌, ◌≤◌, Bool, true, false, List, length, drop, Option, Some, slice_get, refl, sym, subst, ◌∙◌, arith, inl, inr}
 use Rattle.std.specs.List.{filter_map}
-use Rattle.std.proofs.Common.{sym, subst, ◌∙◌, arith, inl, inr}
 use Rattle.std.proofs.lemmas.Bool.Decides.{leb_tells}
-use Rattle.rx_base.specs.declared.ids.TaskId.{TaskId}
+use Rattle.rx_rules.proofs.Common.{TaskId, cell_of, journal_at}
 use Rattle.rx_rules.specs.declared.events.Cell.{Cell}
 use Rattle.rx_rules.specs.declared.events.PlaceEvent.{PlaceEvent}
 use Rattle.rx_rules.specs.declared.events.PlaceEvent.TheVariants.{Done}
-use Rattle.rx_rules.specs.Plays.{cell_of, journal_at}
 use Rattle.rx_verdict.specs.Marked.{marked, HasShape}
 use Rattle.rx_verify.specs.Events.{IsOf, IsFirst}
 use Rattle.rx_verify.specs.Marked.{InReach, MarksUsed}

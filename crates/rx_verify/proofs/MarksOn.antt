@@ -1,23 +1,16 @@
 -- The marks where a slot changes and no event is used.
-use Rattle.std.specs.Prelude.{◌≡◌, ◌↔◌, ℕ, zero, suc, ◌+◌, ◌<◌, ◌≤◌, Bool, true, false, List, [], ◌∷◌, ◌++◌, length, take, drop, Option, Some, None, slice_get, slice_set, refl}
+use Rattle.std.proofs.Common.{◌≡◌, ◌↔◌, ℕ, zero, suc, ◌+◌, ◌<◌, ◌≤◌, Bool, true, false, List, [], ◌∷◌, ◌++◌, length, take, drop, Option, Some, None, slice_get, slice_set, refl, ap, sym, subst, ◌∙◌, arith, inl, inr}
 use Rattle.std.specs.Global.{Box}
 use Rattle.std.specs.List.{filter_map}
-use Rattle.std.proofs.Common.{ap, sym, subst, ◌∙◌, arith, inl, inr}
 use Rattle.std.proofs.lemmas.Bool.{cases_eq, true≢false}
 use Rattle.std.proofs.lemmas.Bool.Decides.{leb_tells}
 use Rattle.std.proofs.lemmas.Option.{slice_get_within, slice_get_past}
-use Rattle.rx_base.specs.declared.ids.PlaceId.{PlaceId}
-use Rattle.rx_base.specs.declared.ids.TaskId.{TaskId}
+use Rattle.rx_rules.proofs.Common.{PlaceId, TaskId, Block, opening, births, Player, Birth, Cells, cell_of, journal_at, birth_of, Given}
 use Rattle.rx_base.proofs.Elements.{get-set, get-last, length-push}
 use Rattle.rx_rules.specs.declared.entries.Entry.{Entry}
 use Rattle.rx_rules.specs.declared.events.Cell.{Cell}
 use Rattle.rx_rules.specs.declared.events.PlaceEvent.{PlaceEvent}
 use Rattle.rx_rules.specs.declared.events.PlaceEvent.TheVariants.{Done}
-use Rattle.rx_rules.specs.Code.{Block}
-use Rattle.rx_rules.specs.Fold.{opening, births}
-use Rattle.rx_rules.specs.Picked.{Player}
-use Rattle.rx_rules.specs.Plays.{Birth, Cells, cell_of, journal_at, birth_of}
-use Rattle.rx_rules.specs.Run.{Given}
 use Rattle.rx_syntax.specs.Shape.{Shape}
 use Rattle.rx_verdict.specs.Makes.{Between}
 use Rattle.rx_verdict.specs.Marks.{home_of, StandsAt, WholePass}

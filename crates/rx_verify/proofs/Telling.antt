@@ -1,17 +1,11 @@
 -- The event tells the call an answer.
-use Rattle.std.specs.Prelude.{◌≡◌, ℕ, ℤ, Bool, true, false, cond, ◌&&◌, ◌==◌, refl}
+use Rattle.std.proofs.Common.{◌≡◌, ℕ, ℤ, Bool, true, false, cond, ◌&&◌, ◌==◌, refl, ap, sym, subst, ◌∙◌}
 use Rattle.std.specs.Ordering.{int_eq}
-use Rattle.std.proofs.Common.{ap, sym, subst, ◌∙◌}
 use Rattle.std.proofs.lemmas.Bool.{and_parts, eqb-true, eq-eqb, true≢false}
 use Rattle.std.proofs.lemmas.Bool.Decides.{Decides-int_eq}
-use Rattle.rx_base.specs.declared.ids.PlaceId.{PlaceId}
-use Rattle.rx_base.specs.declared.ids.GlobalRef.{GlobalRef}
-use Rattle.rx_base.specs.declared.values.Value.TheVariants.{Num as Number, Ref}
-use Rattle.rx_base.specs.declared.values.Fault.TheVariants.{Stale, Index, HeapFull}
+use Rattle.rx_rules.proofs.Common.{PlaceId, GlobalRef, Number, Ref, Stale, Index, HeapFull, Local, Makes as Creates, Gets as Reading, Puts as Writing, Forgets as Freeing, Opens, Calls as Asks, Spawns, Waits, Releases, Prints, Counts, Done, Answer, Gives, Fine, Fails, Tells}
 use Rattle.rx_rules.specs.declared.events.Cell.{Cell}
 use Rattle.rx_rules.specs.declared.events.Cell.TheVariants.{Make, MakeFull, Get, Put, Forget, GetRefused, PutRefused, ForgetStale}
-use Rattle.rx_rules.specs.Terms.{Local, Makes as Creates, Gets as Reading, Puts as Writing, Forgets as Freeing, Opens, Calls as Asks, Spawns, Waits, Releases, Prints, Counts, Done, Answer, Gives, Fine, Fails}
-use Rattle.rx_rules.specs.Plays.{Tells}
 use Rattle.rx_history.specs.declared.step.CellOp.{CellOp}
 use Rattle.rx_history.specs.declared.step.CellOp.TheVariants.{Make as Makes, Get as Gets, Put as Puts, Forget as Forgets}
 use Rattle.rx_verify.specs.Answers.{same_ref, answers, AnswersTells}

@@ -1,20 +1,13 @@
 -- One step of a walk.
-use Rattle.std.specs.Prelude.{◌≡◌, ℕ, zero, suc, ◌+◌, ◌<◌, ◌≤◌, false, List, [], ◌∷◌, ◌++◌, drop, length, map, Option, Some, Result, slice_get, refl}
+use Rattle.std.proofs.Common.{◌≡◌, ℕ, zero, suc, ◌+◌, ◌<◌, ◌≤◌, false, List, [], ◌∷◌, ◌++◌, drop, length, map, Option, Some, Result, slice_get, refl, ap, sym, subst, ◌∙◌, arith, inl, inr}
 use Rattle.std.specs.List.{filter_map}
-use Rattle.std.proofs.Common.{ap, sym, subst, ◌∙◌, arith, inl, inr}
 use Rattle.std.proofs.lemmas.Option.{slice_get_within}
 use Rattle.std.proofs.lemmas.Bool.{true≢false}
-use Rattle.rx_base.specs.declared.ids.PlaceId.{PlaceId}
-use Rattle.rx_base.specs.declared.values.Value.{Value}
-use Rattle.rx_base.specs.declared.values.Fault.{Fault}
+use Rattle.rx_rules.proofs.Common.{PlaceId, Value, Fault, TaskId, Term, Vars, Does, Local, Makes as Creates, Gets as Reading, Puts as Writing, Forgets as Freeing, Opens, Calls as Asks, Spawns, Waits, Releases, Prints, Counts, Done, does, begins, receives, answered, answer_of, vars_after, Answer, Gives, Fine, Fails, Cells, begun, cell_of, journal_at, Player}
 use Rattle.rx_rules.specs.declared.events.Cell.{Cell}
-use Rattle.rx_base.specs.declared.ids.TaskId.{TaskId}
 use Rattle.rx_base.proofs.SameIds.{task-is}
 use Rattle.rx_rules.specs.declared.events.PlaceEvent.{PlaceEvent}
 use Rattle.rx_rules.specs.declared.events.PlaceEvent.TheVariants.{Done as Did}
-use Rattle.rx_rules.specs.Terms.{Term, Vars, Does, Local, Makes as Creates, Gets as Reading, Puts as Writing, Forgets as Freeing, Opens, Calls as Asks, Spawns, Waits, Releases, Prints, Counts, Done, does, begins, receives, answered, answer_of, vars_after, Answer, Gives, Fine, Fails}
-use Rattle.rx_rules.specs.Plays.{Cells, begun, cell_of, journal_at}
-use Rattle.rx_rules.specs.Picked.{Player}
 use Rattle.rx_runs.specs.Steps.{steps, Sinks, TermSinks}
 use Rattle.rx_runs.specs.Knowing.{LocalKnowing}
 use Rattle.rx_history.specs.Events.{Events, AllEvents, events_of}

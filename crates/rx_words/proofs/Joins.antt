@@ -1,8 +1,7 @@
 -- Joins: the first that is one too many, and whether a kill's place joins later.
-use Rattle.std.proofs.Common.{◌≡◌, ℕ, zero, suc, ◌+◌, ◌-◌, ◌<◌, ◌≤◌, Bool, true, false, List, [], ◌∷◌, length, nat_le, nat_lt, ◌==◌, ◌||◌, Some, None, refl, ap, ◌∙◌, arith, get_or}
-use Rattle.std.specs.Prelude.{slice_get, if◌then◌else◌}
+use Rattle.std.proofs.Common.{◌≡◌, ℕ, zero, suc, ◌+◌, ◌-◌, ◌<◌, ◌≤◌, Bool, true, false, List, [], ◌∷◌, length, nat_le, nat_lt, ◌==◌, ◌||◌, Some, None, refl, ap, ◌∙◌, arith, get_or, slice_get, if◌then◌else◌}
 use Rattle.std.proofs.lemmas.Bool.Decides.{nat_tests}
-use Rattle.rx_base.specs.declared.ids.Kill.{Kill}
+use Rattle.rx_rules.proofs.Common.{Kill}
 use Rattle.rx_words.specs.Words.{bad_join, joins_later}
 
 -- the join behind those for which there is room

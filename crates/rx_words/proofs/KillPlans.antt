@@ -1,6 +1,5 @@
 -- Kills of which none is bad: in order, they are a setup's kills, and a sort of them gives this order.
-use Rattle.std.proofs.Common.{◌≡◌, ◌≢◌, ◌⊎◌, inl, inr, ℕ, zero, suc, ◌+◌, ◌<◌, ◌≤◌, Bool, true, false, cond, List, [], ◌∷◌, ◌++◌, length, None, Some, refl, ap, sym, ◌∙◌, subst, arith, map, nat_lt, nat_le, ◌==◌, ◌||◌, ◌&&◌}
-use Rattle.std.specs.Prelude.{if◌then◌else◌, Option, Contains, slice_index_or, slice_get}
+use Rattle.std.proofs.Common.{◌≡◌, ◌≢◌, ◌⊎◌, inl, inr, ℕ, zero, suc, ◌+◌, ◌<◌, ◌≤◌, Bool, true, false, cond, List, [], ◌∷◌, ◌++◌, length, None, Some, refl, ap, sym, ◌∙◌, subst, arith, map, nat_lt, nat_le, ◌==◌, ◌||◌, ◌&&◌, if◌then◌else◌, Option, Contains, slice_index_or, slice_get}
 use Rattle.std.specs.List.{AllByRecursion, IsDistinct}
 use Rattle.std.specs.List.Sorted.{IsPermutation, IsSortedBy, IsSortedByKey}
 use Rattle.std.specs.Ordering.{is_lt, nat_cmp, ordering_then}
@@ -9,12 +8,9 @@ use Rattle.std.proofs.lemmas.Bool.Decides.{nat_tests}
 use Rattle.std.proofs.lemmas.List.Sorted.{Contains-permutation, IsPermutation-sym}
 use Rattle.std.proofs.lemmas.Map.Keys.{IsDistinct-IsPermutation, apart_from_distinct}
 use Rattle.std.proofs.lemmas.Bool.{or_parts}
-use Rattle.rx_base.specs.declared.ids.Kill.{Kill}
-use Rattle.rx_base.specs.declared.ids.PlaceId.{PlaceId}
-use Rattle.rx_rules.specs.Run.{Given, in_all, AreKills, Joined, Spares, Ascends, ComesAfter}
+use Rattle.rx_rules.proofs.Common.{Kill, PlaceId, Given, in_all, AreKills, Joined, Spares, Ascends, ComesAfter, has}
 use Rattle.rx_history.specs.KillOrder.{IsAscending, ComesLast, is_before}
 use Rattle.rx_history.proofs.InOrder.{which-after, before-Decides, not-itself, contains-first, contains-later, contains-cases, contains-none, contained-after, ascending-rest, in_order, one-order}
-use Rattle.rx_base.specs.Lists.{has}
 use Rattle.rx_words.specs.Words.{joins_later, is_bad, bad_kill, ordered}
 use Rattle.rx_words.specs.Commands.{kill_in}
 

@@ -1,13 +1,12 @@
 -- Moments in order: they stand so in one list alone, and a sort makes it.
-use Rattle.std.proofs.Common.{◌≡◌, ℕ, suc, ◌+◌, ◌<◌, ◌≤◌, Bool, true, false, cond, List, [], ◌∷◌, ◌++◌, length, nat_lt, ◌==◌, refl, ap, sym, ◌∙◌, subst, arith}
-use Rattle.std.specs.Prelude.{slice_index_or}
+use Rattle.std.proofs.Common.{◌≡◌, ℕ, suc, ◌+◌, ◌<◌, ◌≤◌, Bool, true, false, cond, List, [], ◌∷◌, ◌++◌, length, nat_lt, ◌==◌, refl, ap, sym, ◌∙◌, subst, arith, slice_index_or}
 use Rattle.std.specs.List.{sum_by}
 use Rattle.std.specs.List.Sorted.{IsPermutation, IsSorted}
 use Rattle.std.specs.Ordering.{nat_cmp}
 use Rattle.std.proofs.lemmas.Bool.Decides.{nat_tests}
 use Rattle.std.proofs.lemmas.List.Sums.{sum_by-cons}
 use Rattle.std.proofs.lemmas.List.Sorted.{sum_by-IsPermutation, IsNonDecreasingBy-from_sort}
-use Rattle.rx_rules.specs.Run.{AreJoins}
+use Rattle.rx_rules.proofs.Common.{AreJoins}
 use Rattle.rx_history.specs.JoinOrder.{NeverFalls, IsAtLeastLast}
 use Rattle.rx_words.specs.Moments.{OneMomentOrder}
 use Rattle.rx_words.specs.Inside.Rising.{rising}

@@ -1,6 +1,5 @@
 -- The number that a word spells.
-use Rattle.std.proofs.Common.{◌≡◌, ℕ, ◌<◌, ◌≤◌, ◌^◌, Bool, true, false, nat_lt, List, Some, None, refl, ap, sym, ◌∙◌, arith, length, ◌++◌, append-nil}
-use Rattle.std.specs.Prelude.{ℤ, pos, negsuc, nat_le, ◌&&◌, if◌then◌else◌}
+use Rattle.std.proofs.Common.{◌≡◌, ℕ, ◌<◌, ◌≤◌, ◌^◌, Bool, true, false, nat_lt, List, Some, None, refl, ap, sym, ◌∙◌, arith, length, ◌++◌, append-nil, ℤ, pos, negsuc, nat_le, ◌&&◌, if◌then◌else◌}
 use Rattle.std.specs.Int.Signed.{lt_z}
 use Rattle.std.proofs.lemmas.List.{drop_all}
 use Rattle.std.specs.Str.{bytes_eq}

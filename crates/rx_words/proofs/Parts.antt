@@ -1,6 +1,5 @@
 -- A pick list is read part by part.
-use Rattle.std.proofs.Common.{◌≡◌, ◌∙◌, ℕ, suc, ◌+◌, Bool, true, false, List, [], ◌∷◌, ◌++◌, Option, Some, None, take, drop, refl, ap, arith}
-use Rattle.std.specs.Prelude.{not, ◌==◌}
+use Rattle.std.proofs.Common.{◌≡◌, ◌∙◌, ℕ, suc, ◌+◌, Bool, true, false, List, [], ◌∷◌, ◌++◌, Option, Some, None, take, drop, refl, ap, arith, not, ◌==◌}
 use Rattle.std.specs.List.{prefix_len}
 use Rattle.rx_words.specs.Words.{parts, in_front}
 use Rattle.rx_words.specs.Commands.{later}

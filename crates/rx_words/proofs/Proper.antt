@@ -1,9 +1,8 @@
 -- Words ask for proper setups.
-use Rattle.std.proofs.Common.{◌≡◌, ◌∙◌, ℕ, suc, ◌≤◌, ◌^◌, ◌-◌, List, [], ◌∷◌, Option, Some, None, refl, arith, map, length}
-use Rattle.std.specs.Prelude.{IfSome, Bool, true, false, bytes_eq, codes, if◌then◌else◌}
+use Rattle.std.proofs.Common.{◌≡◌, ◌∙◌, ℕ, suc, ◌≤◌, ◌^◌, ◌-◌, List, [], ◌∷◌, Option, Some, None, refl, arith, map, length, IfSome, Bool, true, false, bytes_eq, codes, if◌then◌else◌}
 use Rattle.std.proofs.lemmas.List.Sorted.{length_permutation}
 use Rattle.std.proofs.lemmas.List.{length-map}
-use Rattle.rx_rules.specs.Run.{Proper}
+use Rattle.rx_rules.proofs.Common.{Proper}
 use Rattle.rx_words.specs.Words.{number_of, kill_of, pick_list_of, Wants, nothing_yet, Taken, NotAnOption, BadValue, Takes, good, taken, choice, or_else, joined, bad_join, bad_kill, first_of, first_bad, setup_of, source, Asked, Step, Gen, Check, Verify, Span, Live, BadWord, unless_bad, generated, settled, cut_off, options, alone, asked}
 use Rattle.rx_words.specs.declared.said.Verb.{Verb}
 use Rattle.rx_words.specs.declared.said.Verb.TheVariants as verbs

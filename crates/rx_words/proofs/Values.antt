@@ -1,6 +1,5 @@
 -- What is made of a value that is to spell a number.
-use Rattle.std.specs.Prelude.{◌≡◌, ℕ, Option, Some, None, refl}
-use Rattle.std.proofs.Common.{ap, sym, ◌∙◌}
+use Rattle.std.proofs.Common.{◌≡◌, ℕ, Option, Some, None, refl, ap, sym, ◌∙◌}
 use Rattle.rx_words.specs.declared.said.Said.{Said}
 use Rattle.rx_words.specs.declared.taking.Took.{Took}
 use Rattle.rx_words.specs.declared.taking.Took.TheVariants.{NotAnOption, BadValue, Good}

@@ -1,18 +1,12 @@
 -- The histories of deaths that are no runs.
-use Rattle.std.specs.Prelude.{◌≡◌, ℕ, ◌≤◌, pos, true, false, List, [], ◌∷◌, Some, None, slice_get}
-use Rattle.std.proofs.Common.{arith, subst}
-use Rattle.rx_base.specs.declared.ids.PlaceId.{PlaceId}
-use Rattle.rx_base.specs.declared.values.Fault.{Fault}
+use Rattle.std.proofs.Common.{◌≡◌, ℕ, ◌≤◌, pos, true, false, List, [], ◌∷◌, Some, None, slice_get, arith, subst}
+use Rattle.rx_rules.proofs.Common.{PlaceId, Fault, New, Term, Vars, no_vars, Empty, Run, items, Plays, asks, ends, EachPlays, BeginsNoRun, t, s, p}
 use Rattle.rx_rules.specs.declared.entries.Act.{Act}
 use Rattle.rx_rules.specs.declared.entries.Act.TheVariants.{End, Print}
 use Rattle.rx_rules.specs.declared.tasks.Where.TheVariants.{Travel}
 use Rattle.rx_rules.specs.declared.events.Cell.{Cell}
 use Rattle.rx_rules.specs.declared.events.Cell.TheVariants.{Make}
-use Rattle.rx_rules.specs.Code.{New}
-use Rattle.rx_rules.specs.Terms.{Term, Vars, no_vars, Empty, Run, items}
-use Rattle.rx_rules.specs.Plays.{Plays, local, stores, asks, ends, EachPlays}
-use Rattle.rx_rules.specs.Inversions.{BeginsNoRun}
-use Rattle.rx_rules.specs.Examples.{t, s, p}
+use Rattle.rx_rules.specs.Plays.{local, stores}
 use Rattle.rx_worked.specs.Deaths.{make_script, leaves_orphan, at_leaves_orphan, arrives_at_dead, KillOneEntryEarly, makes_between, stamped, StampIsBetween}
 
 pub orphan_excluded : BeginsNoRun 4 leaves_orphan

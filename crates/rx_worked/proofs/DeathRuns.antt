@@ -1,13 +1,7 @@
 -- The histories of deaths that are whole runs.
-use Rattle.std.specs.Prelude.{pos, [], ◌∷◌, refl}
-use Rattle.std.proofs.Common.{lit<, lit≤, arith}
-use Rattle.rx_base.specs.declared.values.Value.TheVariants.{Ref}
-use Rattle.rx_rules.specs.Code.{Num, Nothing, Then, Print as Prints, Throw, Async, AtAsync, Finish}
-use Rattle.rx_rules.specs.Terms.{no_vars, Empty, items, Gives}
-use Rattle.rx_rules.specs.Plays.{local, stores, asks, ends, stops}
-use Rattle.rx_rules.specs.Store.{IsLeastFree, opening_state}
-use Rattle.rx_rules.specs.Run.{IsRun}
-use Rattle.rx_rules.specs.Examples.{p, ordinary_script, ordinary_case, ordinary_case_journals, ordinary_setup, source_script, masked_script}
+use Rattle.std.proofs.Common.{pos, [], ◌∷◌, refl, lit<, lit≤, arith}
+use Rattle.rx_rules.proofs.Common.{Ref, Num, Nothing, Then, Print as Prints, Throw, Async, AtAsync, Finish, no_vars, Empty, items, Gives, asks, ends, stops, IsLeastFree, opening_state, IsRun, p, ordinary_script, ordinary_case, ordinary_case_journals, ordinary_setup, source_script, masked_script}
+use Rattle.rx_rules.specs.Plays.{local, stores}
 use Rattle.rx_worked.specs.Deaths.{late_kill_setup, both_at_once_setup, both_at_once, both_at_once_journals, first_kill_setup, born_struck, born_struck_journals, async_inside_script, at_and_async, at_and_async_journals, both_die_setup, both_die, both_die_journals, make_script, makes_between, stamped, held_fault_setup, held_fault, held_fault_journals}
 
 -- four words fit at the front of an empty heap

@@ -1,21 +1,10 @@
 -- The histories of places that join are whole runs, and the wrong ones are in none.
-use Rattle.std.specs.Prelude.{◌≡◌, ℕ, pos, List, [], ◌∷◌, refl}
-use Rattle.std.proofs.Common.{lit<, lit≤, arith, subst, sym}
-use Rattle.rx_base.specs.declared.values.Value.TheVariants.{Num as Number}
-use Rattle.rx_base.specs.declared.values.Fault.{Fault}
-use Rattle.rx_base.specs.declared.values.Fault.TheVariants.{NoPlace}
-use Rattle.rx_base.specs.declared.ids.TaskId.{TaskId}
-use Rattle.rx_base.specs.declared.ids.PlaceId.{PlaceId}
-use Rattle.rx_base.specs.declared.ids.ScopeId.{ScopeId}
+use Rattle.std.proofs.Common.{◌≡◌, ℕ, pos, List, [], ◌∷◌, refl, lit<, lit≤, arith, subst, sym}
+use Rattle.rx_rules.proofs.Common.{Number, Fault, NoPlace, TaskId, PlaceId, ScopeId, Here, Nothing, Then, Print as Prints, Term, Vars, no_vars, bound, Empty, Raise, items, raise, Plays, asks, ends, IsRun, p, joining_script, BeginsNoRun}
 use Rattle.rx_rules.specs.declared.entries.Act.{Act}
 use Rattle.rx_rules.specs.declared.entries.Act.TheVariants.{Spawn}
 use Rattle.rx_rules.specs.declared.events.Cell.{Cell}
-use Rattle.rx_rules.specs.Code.{Here, Nothing, Then, Print as Prints}
-use Rattle.rx_rules.specs.Terms.{Term, Vars, no_vars, bound, Empty, Raise, items, raise}
-use Rattle.rx_rules.specs.Plays.{Plays, local, stores, asks, ends}
-use Rattle.rx_rules.specs.Run.{IsRun}
-use Rattle.rx_rules.specs.Examples.{p, joining_script}
-use Rattle.rx_rules.specs.Inversions.{BeginsNoRun}
+use Rattle.rx_rules.specs.Plays.{local, stores}
 use Rattle.rx_worked.specs.Statements.{IsNoRun}
 use Rattle.rx_worked.specs.Places.{away_script, counted_script, child_script, number_script, joined_setup, dead_setup, no_events, never_counted, joined_since, joined_before, counted_later, never_joined, counts_dead, counts_dead_journals, counts_living, starts_unknown}
 use Rattle.rx_worked.proofs.StatementRuns.{main_plays}

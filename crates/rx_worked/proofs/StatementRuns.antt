@@ -1,21 +1,12 @@
 -- The worked histories of statements are whole runs, and the wrong ones are in none.
-use Rattle.std.specs.Prelude.{◌≡◌, ℕ, pos, true, false, List, [], ◌∷◌, Some, slice_get, refl}
-use Rattle.std.proofs.Common.{lit<, lit≤, subst}
-use Rattle.rx_base.specs.declared.values.Value.TheVariants.{Num as Number, Ref}
-use Rattle.rx_base.specs.declared.values.Fault.{Fault}
-use Rattle.rx_base.specs.declared.values.Fault.TheVariants.{Index, Thrown}
+use Rattle.std.proofs.Common.{◌≡◌, ℕ, pos, true, false, List, [], ◌∷◌, Some, slice_get, refl, lit<, lit≤, subst}
+use Rattle.rx_rules.proofs.Common.{Number, Ref, Fault, Index, Thrown, Num, Name, Nothing, Then, Get, Print, Throw, Term, Vars, no_vars, bound, Empty, items, Gives, Fine, Fails, Plays, asks, ends, Begins, EachPlays, birth_of, travels, Live, fits, word_at, IsRun, p, ordinary_setup, kill_setup, loss_in_transit_journals, BeginsNoRun, acts_of, events_of_task}
 use Rattle.rx_rules.specs.declared.entries.Act.{Act}
 use Rattle.rx_rules.specs.declared.entries.Act.TheVariants.{End, Print as Prints}
 use Rattle.rx_rules.specs.declared.entries.Entry.{Entry}
 use Rattle.rx_rules.specs.declared.events.Cell.{Cell}
 use Rattle.rx_rules.specs.declared.events.PlaceEvent.{PlaceEvent}
-use Rattle.rx_rules.specs.Code.{Num, Name, Nothing, Then, Get, Print, Throw}
-use Rattle.rx_rules.specs.Terms.{Term, Vars, no_vars, bound, Empty, items, Gives, Fine, Fails}
-use Rattle.rx_rules.specs.Plays.{Plays, local, stores, asks, ends, Begins, EachPlays, birth_of, travels}
-use Rattle.rx_rules.specs.Store.{Live, fits, word_at}
-use Rattle.rx_rules.specs.Run.{IsRun}
-use Rattle.rx_rules.specs.Examples.{p, ordinary_setup, kill_setup, loss_in_transit_journals}
-use Rattle.rx_rules.specs.Inversions.{BeginsNoRun, acts_of, events_of_task}
+use Rattle.rx_rules.specs.Plays.{local, stores}
 use Rattle.rx_rules.proofs.Worked.{at_front}
 use Rattle.rx_worked.specs.Statements.{StoresNoRun, no_events, turns_script, turns, copied_script, copied, dead_script, not_caught, any_script, caught, in_order_script, in_order, too_large_script, too_large, used_away_script, used_away, used_away_journals, values_block, values_script, values, kept_script, kept, kept_journals, nowhere_script, nowhere, full_beside_hole, not_at_least, another_word, mixed_script, mixed, swallows_fault, value_script, IsNoRun, other_value, ends_early}
 

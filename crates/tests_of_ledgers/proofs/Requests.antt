@@ -1,6 +1,6 @@
 -- A coordinator that was asked stands after some entries.
 use Rattle.std.proofs.Common.{ℕ, List, [], ◌∷◌, ◌++◌, inl, inr}
-use Rattle.rx_base.specs.declared.ids.TaskId.{TaskId}
+use Rattle.rx_rules.proofs.Common.{TaskId}
 use Rattle.rx_rules.specs.declared.entries.Entry.{Entry}
 use Rattle.rx_coordinator.specs.declared.requests.Request.{Request}
 use Rattle.rx_coordinator.specs.declared.requests.Request.TheVariants.{Send}

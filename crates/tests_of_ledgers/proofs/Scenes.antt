@@ -1,9 +1,6 @@
 -- What the worked calls take from a reply.
-use Rattle.std.specs.Prelude.{◌≡◌, ◌≢◌, ◌<◌, Bool, true, false, cond, [], ◌++◌, Option, Some, None, is_some, refl}
-use Rattle.std.proofs.Common.{ap, ◌∙◌, sym, arith}
-use Rattle.rx_base.specs.declared.ids.ScopeId.{ScopeId}
-use Rattle.rx_rules.specs.Tree.{death_of}
-use Rattle.rx_rules.specs.Fold.{tree_of}
+use Rattle.std.proofs.Common.{◌≡◌, ◌≢◌, ◌<◌, Bool, true, false, cond, [], ◌++◌, Option, Some, None, is_some, refl, ap, ◌∙◌, sym, arith}
+use Rattle.rx_rules.proofs.Common.{ScopeId, death_of, tree_of}
 use Rattle.rx_sound.proofs.Reach.{task_below}
 use Rattle.rx_sound.proofs.Reached.{sound}
 use Rattle.rx_sound.proofs.Histories.{fold_reached}

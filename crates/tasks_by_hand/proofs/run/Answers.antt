@@ -1,5 +1,4 @@
-use Rattle.std.specs.Prelude.{◌≡◌, false, []}
-use Rattle.std.proofs.Common.{ap, rules}
+use Rattle.std.proofs.Common.{◌≡◌, false, [], ap, rules}
 use Rattle.rx_ledger.specs.Kept.{Kept}
 use Rattle.rx_ticket.specs.declared.tickets.AnyTicket.TheVariants.{Running, Host}
 use Rattle.tasks_by_hand.specs.declared.Job.{Job}

@@ -1,6 +1,5 @@
-use Rattle.std.proofs.Common.{ℕ, sym, subst}
-use Rattle.std.specs.Prelude.{Option, IfOk}
-use Rattle.rx_rules.specs.Code.{Block}
+use Rattle.std.proofs.Common.{ℕ, sym, subst, Option, IfOk}
+use Rattle.rx_rules.proofs.Common.{Block}
 use Rattle.rx_syntax.specs.Shape.{Stands}
 use Rattle.rx_history.specs.Setups.{given}
 use Rattle.rx10.specs.Top.{status_by, IsLiveText}

@@ -1,5 +1,5 @@
 use Rattle.std.proofs.Common.{ℕ, List, ◌++◌, ap, ◌∙◌}
-use Rattle.rx_rules.specs.Run.{Given, IsRun}
+use Rattle.rx_rules.proofs.Common.{Given, IsRun}
 use Rattle.rx_history.specs.Events.{events_of}
 use Rattle.rx_history.specs.Setups.{given}
 use Rattle.rx_trace.specs.Text.{trace_text}

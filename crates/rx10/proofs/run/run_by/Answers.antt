@@ -1,5 +1,4 @@
-use Rattle.std.proofs.Common.{ℕ, List, sym, ap, ◌∙◌}
-use Rattle.std.specs.Prelude.{slice_index_or}
+use Rattle.std.proofs.Common.{ℕ, List, sym, ap, ◌∙◌, slice_index_or}
 use Rattle.rx_words.specs.Commands.{source_of}
 use Rattle.rx_words.specs.declared.command.PickWords.{PickWords}
 use Rattle.rx10.specs.Top.{picks_of}

@@ -1,6 +1,5 @@
 use Rattle.std.proofs.Common.{sym, ap, subst, arith, length}
-use Rattle.rx_rules.specs.Picked.{start_game}
-use Rattle.rx_rules.specs.Run.{Given, EndsWithRoot}
+use Rattle.rx_rules.proofs.Common.{start_game, Given, EndsWithRoot}
 use Rattle.rx_history.specs.Setups.{given}
 use Rattle.rx10.proofs.run.run_program.Goals as goal
 

@@ -1,5 +1,5 @@
 use Rattle.std.proofs.Common.{◌≡◌, ℕ, List, [], ◌∷◌, ◌++◌, ap, ◌∙◌, refl}
-use Rattle.rx_rules.specs.Code.{work}
+use Rattle.rx_rules.proofs.Common.{work}
 use Rattle.rx_text.specs.Numbers.{natural_text}
 use Rattle.rx_check.proofs.OneTree.{one-tree}
 use Rattle.rx10.proofs.run.tell_work.Goals as goal

@@ -1,5 +1,4 @@
-use Rattle.std.proofs.Common.{◌≤◌, ℕ, List, [], length}
-use Rattle.std.specs.Prelude.{Option}
+use Rattle.std.proofs.Common.{◌≤◌, ℕ, List, [], length, Option}
 use Rattle.std.specs.Io.KnownBytes.{Consumes}
 use Rattle.rx10_coordinator.specs.Inside.Desk.{Serves}
 use Rattle.rx10_coordinator.proofs.serve.serve_desk.Given as goal

@@ -1,5 +1,4 @@
-use Rattle.std.proofs.Common.{ℕ, List, ◌++◌, take}
-use Rattle.std.specs.Prelude.{Option}
+use Rattle.std.proofs.Common.{ℕ, List, ◌++◌, take, Option}
 use Rattle.rx10_coordinator.specs.Inside.Desk.{Serves}
 use Rattle.rx10_coordinator.proofs.serve.take_all.Given as goal
 

@@ -1,5 +1,5 @@
 use Rattle.std.proofs.Common.{◌≡◌, ap, sym, ◌∙◌, rules}
-use Rattle.rx_rules.specs.Terms.{Waits, Done, does}
+use Rattle.rx_rules.proofs.Common.{Waits, Done, does}
 use Rattle.rx_history.specs.declared.step.Next.TheVariants.{Book as BookStep}
 use Rattle.rx_history.specs.declared.step.Want.TheVariants.{Wait as WantWait}
 use Rattle.rx_history.specs.Next.{carried}

@@ -1,6 +1,5 @@
 use Rattle.std.proofs.Common.{ap, ◌+◌, Bool, true, Option, Some, sym, ◌∙◌, subst, refl}
-use Rattle.rx_base.specs.declared.ids.PlaceId.{PlaceId}
-use Rattle.rx_rules.specs.Terms.{child}
+use Rattle.rx_rules.proofs.Common.{PlaceId, child}
 use Rattle.rx_control.specs.declared.control.Control.{Control}
 use Rattle.rx_control.specs.Stands.{StandsFor}
 use Rattle.rx_book.specs.declared.passes.Pass.{Pass}

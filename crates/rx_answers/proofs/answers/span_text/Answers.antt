@@ -1,7 +1,5 @@
-use Rattle.std.proofs.Common.{sym, subst}
-use Rattle.std.specs.Prelude.{IfOk}
-use Rattle.rx_rules.specs.Code.{Block}
-use Rattle.rx_rules.specs.Order.{told}
+use Rattle.std.proofs.Common.{sym, subst, IfOk}
+use Rattle.rx_rules.proofs.Common.{Block, told}
 use Rattle.rx_syntax.specs.Shape.{Stands}
 use Rattle.rx_verdict.specs.declared.verdict.Verdict.{Verdict}
 use Rattle.rx_answers.specs.declared.answers.Question.TheVariants.{Span}

@@ -1,5 +1,4 @@
-use Rattle.std.proofs.Common.{◌≡◌, ℕ, ◌+◌, Bor, true, false, List, ◌++◌, length, take, drop, Some, None, ap, sym, ◌∙◌}
-use Rattle.std.specs.Prelude.{Option, IfSome}
+use Rattle.std.proofs.Common.{◌≡◌, ℕ, ◌+◌, Bor, true, false, List, ◌++◌, length, take, drop, Some, None, ap, sym, ◌∙◌, Option, IfSome}
 use Rattle.std.specs.Option.{MatchOption}
 use Rattle.std.specs.Str.{bytes_eq}
 use Rattle.rx_answers.proofs.Heads.{front-is, front-not}

@@ -1,5 +1,4 @@
-use Rattle.std.proofs.Common.{arith, length-append, ap}
-use Rattle.std.specs.Prelude.{length, ◌++◌}
+use Rattle.std.proofs.Common.{arith, length-append, ap, length, ◌++◌}
 use Rattle.rx_answers.proofs.Heads.{head-of-pair, one-head}
 use Rattle.rx_answers.proofs.pair.split_pair.Goals as goal
 

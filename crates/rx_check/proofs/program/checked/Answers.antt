@@ -1,5 +1,5 @@
 use Rattle.std.proofs.Common.{◌≡◌, ◌≤◌, subst}
-use Rattle.rx_rules.specs.Code.{Block, work}
+use Rattle.rx_rules.proofs.Common.{Block, work}
 use Rattle.rx_syntax.specs.Shape.{Stands}
 use Rattle.rx_syntax.specs.Grammar.{AllInRange, spellings}
 use Rattle.rx_syntax.specs.Tokens.{AreNames}

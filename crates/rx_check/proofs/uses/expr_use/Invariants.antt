@@ -1,5 +1,5 @@
 use Rattle.std.proofs.Common.{◌≡◌}
-use Rattle.rx_rules.specs.Code.{Expr}
+use Rattle.rx_rules.proofs.Common.{Expr}
 use Rattle.rx_syntax.specs.Shape.{ExprStands}
 use Rattle.rx_check.specs.Inside.Walk.{join, uses_in, weights, Yields}
 use Rattle.rx_check.specs.declared.uses.Uses.{Uses}

@@ -1,7 +1,7 @@
 use Rattle.std.proofs.Common.{ap, ◌∙◌, ◌≡◌, ◌≤◌, ◌+◌, suc, ◌++◌, [], ◌∷◌, sym, subst, arith, ℕ, List, take, length}
 use Rattle.std.proofs.lemmas.Option.{get_or_from_slice_get, slice_get_within}
 use Rattle.std.proofs.Math.Seq.{take-suc}
-use Rattle.rx_base.specs.declared.values.Fault.{Fault}
+use Rattle.rx_rules.proofs.Common.{Fault}
 use Rattle.rx_chronicle.proofs.releasing.copy_into.Goals as goal
 
 pub loop-i-preserved : goal.loop-i-preserved

@@ -1,8 +1,6 @@
 use Rattle.std.proofs.Common.{◌≡◌, None, refl, sym, subst}
-use Rattle.rx_rules.specs.Code.{Stmt}
-use Rattle.rx_rules.specs.Terms.{Term, stmt_child, items, Empty}
+use Rattle.rx_rules.proofs.Common.{Stmt, Term, stmt_child, items, Empty, Block}
 use Rattle.rx_syntax.specs.Shape.{StmtIs, BlockStands}
-use Rattle.rx_rules.specs.Code.{Block}
 use Rattle.rx_control.specs.declared.control.Control.{Control}
 use Rattle.rx_control.specs.Stands.{StandsFor}
 use Rattle.rx_control.proofs.Starting.{empty-control}

@@ -1,5 +1,5 @@
 use Rattle.std.proofs.Common.{rules, ◌≡◌, ◌∙◌, [], ◌∷◌, ◌++◌, Option, None, sym, subst}
-use Rattle.rx_rules.specs.Terms.{Term, Empty}
+use Rattle.rx_rules.proofs.Common.{Term, Empty}
 use Rattle.rx_syntax.specs.declared.nodes.BlockId.{BlockId}
 use Rattle.rx_control.specs.declared.frame.Frame.TheVariants.{Seq}
 use Rattle.rx_control.specs.Levels.{More}

@@ -1,10 +1,8 @@
-use Rattle.std.proofs.Common.{rules, ◌≡◌, ℕ, ◌+◌, List, ◌∷◌, drop, true, false, Some, ap, sym, ◌∙◌}
-use Rattle.std.specs.Prelude.{slice_get, ◌&&◌}
+use Rattle.std.proofs.Common.{rules, ◌≡◌, ℕ, ◌+◌, List, ◌∷◌, drop, true, false, Some, ap, sym, ◌∙◌, slice_get, ◌&&◌}
 use Rattle.std.specs.List.{list_all}
 use Rattle.std.proofs.lemmas.List.{at_drop_more}
 use Rattle.std.proofs.lemmas.Option.{slice_get_within, get_or_from_slice_get}
-use Rattle.rx_base.specs.declared.values.Fault.{Fault}
-use Rattle.rx_rules.specs.Terms.{is_dead}
+use Rattle.rx_rules.proofs.Common.{Fault, is_dead}
 use Rattle.rx_control.proofs.faults.all_dead.Goals as goal
 
 more : (fs : List Fault) (i : ℕ) (f : Fault) → slice_get fs i ≡ Some f → drop i fs ≡ f ∷ drop (i + 1) fs

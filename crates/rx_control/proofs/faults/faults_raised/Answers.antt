@@ -1,7 +1,7 @@
 use Rattle.std.specs.Result.{IfOk}
 use Rattle.std.proofs.Common.{◌≡◌, ◌<◌, ◌≤◌, ◌+◌, List, ◌++◌, arith, ap, sym, ◌∙◌, subst}
 use Rattle.std.proofs.lemmas.Bool.{eqb-true}
-use Rattle.rx_base.specs.declared.values.Fault.{Fault}
+use Rattle.rx_rules.proofs.Common.{Fault}
 use Rattle.rx_control.proofs.Raising.{raised_from, raised_all, raises-one, raises-none, raises-all, raises-nothing, same-set}
 use Rattle.rx_control.proofs.faults.faults_raised.Goals.{then-contains+in_ok-push, else-contains}
 use Rattle.rx_control.proofs.faults.faults_raised.Goals as goal

@@ -1,5 +1,5 @@
 use Rattle.std.proofs.Common.{ℕ, List, Some, vec_len}
-use Rattle.rx_base.specs.declared.values.Fault.{Fault}
+use Rattle.rx_rules.proofs.Common.{Fault}
 use Rattle.rx_control.specs.Levels.{Level}
 use Rattle.rx_syntax.specs.Shape.{Shape}
 use Rattle.rx_control.specs.Stands.{FramesStand}

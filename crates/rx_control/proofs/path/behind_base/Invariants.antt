@@ -1,5 +1,4 @@
-use Rattle.std.proofs.Common.{◌≡◌, ◌++◌, ℕ, List, drop}
-use Rattle.std.specs.Prelude.{◌↔◌}
+use Rattle.std.proofs.Common.{◌≡◌, ◌++◌, ℕ, List, drop, ◌↔◌}
 use Rattle.rx_control.proofs.path.behind_base.Given as goal
 
 -- the path goes on behind the base as what is left goes on behind what is left of the base

@@ -1,5 +1,4 @@
-use Rattle.std.proofs.Common.{◌≡◌, ◌++◌, ℕ, List, drop, flat_map}
-use Rattle.std.specs.Prelude.{◌↔◌}
+use Rattle.std.proofs.Common.{◌≡◌, ◌++◌, ℕ, List, drop, flat_map, ◌↔◌}
 use Rattle.rx_control.specs.Stands.{numbers, path_of}
 use Rattle.rx_control.proofs.path.left_of.Given as goal
 

@@ -1,5 +1,5 @@
 use Rattle.std.proofs.Common.{◌∷◌, None, refl, sym, subst}
-use Rattle.rx_rules.specs.Code.{Stmt}
+use Rattle.rx_rules.proofs.Common.{Stmt}
 use Rattle.rx_control.specs.Levels.{More, Inside, Waiting}
 use Rattle.rx_control.specs.declared.frame.Frame.TheVariants.{Body, Held}
 use Rattle.rx_control.specs.Stands.{path_of, FramesStand}

@@ -1,6 +1,6 @@
 use Rattle.std.proofs.Common.{◌∙◌, sym}
 use Rattle.std.proofs.lemmas.Bool.{true≢false}
-use Rattle.rx_rules.specs.Tree.{Tree}
+use Rattle.rx_rules.proofs.Common.{Tree}
 use Rattle.rx_counts.proofs.Asking.{none_kept}
 use Rattle.rx_counts.proofs.Passing.{passes_by, passes_hand, heir_exists, pour_ok}
 use Rattle.rx_counts.proofs.dying.hand_over.Goals as goal

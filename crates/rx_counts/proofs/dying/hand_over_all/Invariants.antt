@@ -1,7 +1,6 @@
-use Rattle.std.proofs.Common.{◌≡◌, length}
-use Rattle.std.specs.Prelude.{Bool, ℕ}
+use Rattle.std.proofs.Common.{◌≡◌, length, Bool, ℕ}
 use Rattle.rx_rules.specs.declared.tasks.Scope.{Scope}
-use Rattle.rx_rules.specs.Tree.{Tree}
+use Rattle.rx_rules.proofs.Common.{Tree}
 use Rattle.rx_counts.specs.Inside.Dying.{Passing}
 use Rattle.rx_counts.proofs.dying.hand_over_all.Given as goal
 

@@ -1,5 +1,4 @@
-use Rattle.std.proofs.Common.{◌≡◌, ◌∙◌, Some, None, sym, ap, rules}
-use Rattle.std.specs.Prelude.{slice_index_or}
+use Rattle.std.proofs.Common.{◌≡◌, ◌∙◌, Some, None, sym, ap, rules, slice_index_or}
 use Rattle.rx_counts.proofs.Paging.{default_more}
 use Rattle.rx_counts.proofs.pages.shorten.Goals as goal
 

@@ -1,5 +1,4 @@
-use Rattle.std.proofs.Common.{◌≡◌, ℕ, None, vec_len}
-use Rattle.std.specs.Prelude.{slice_index_or}
+use Rattle.std.proofs.Common.{◌≡◌, ℕ, None, vec_len, slice_index_or}
 use Rattle.rx_counts.proofs.pages.shorten.Given as goal
 
 abbrev pub invariant-loop-page : goal.invariant-loop-page

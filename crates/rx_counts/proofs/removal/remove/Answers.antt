@@ -1,5 +1,4 @@
-use Rattle.std.proofs.Common.{◌∙◌, sym, ap, refl}
-use Rattle.std.specs.Prelude.{cond, None}
+use Rattle.std.proofs.Common.{◌∙◌, sym, ap, refl, cond, None}
 use Rattle.rx_counts.specs.Stands.{record_at}
 use Rattle.rx_counts.proofs.Sweeping.{none_before, swept_below, swept_above}
 use Rattle.rx_counts.proofs.Stopping.{left_first, left_on, none_left}

@@ -1,7 +1,5 @@
-use Rattle.std.proofs.Common.{◌≡◌, ℕ, ◌<◌, ◌≤◌, ◌+◌, None, length}
-use Rattle.std.specs.Prelude.{cond, Some}
-use Rattle.rx_base.specs.declared.ids.ScopeId.{ScopeId}
-use Rattle.rx_rules.specs.Tree.{Tree}
+use Rattle.std.proofs.Common.{◌≡◌, ℕ, ◌<◌, ◌≤◌, ◌+◌, None, length, cond, Some}
+use Rattle.rx_rules.proofs.Common.{ScopeId, Tree}
 use Rattle.rx_sound.specs.Chains.{meets}
 use Rattle.rx_counts.specs.Stands.{record_at, IsShaped}
 use Rattle.rx_counts.specs.Inside.Freeing.{Takes}

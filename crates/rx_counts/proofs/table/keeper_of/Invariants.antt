@@ -1,5 +1,5 @@
 use Rattle.std.proofs.Common.{◌≡◌, Some}
-use Rattle.rx_rules.specs.Tree.{Tree}
+use Rattle.rx_rules.proofs.Common.{Tree}
 use Rattle.rx_counts.specs.Keeping.{keeper, stands_home}
 use Rattle.rx_counts.specs.Stands.{IsShaped}
 use Rattle.rx_counts.proofs.table.keeper_of.Given as goal

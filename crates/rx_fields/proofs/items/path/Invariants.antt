@@ -1,5 +1,4 @@
-use Rattle.std.proofs.Common.{◌≡◌, ◌++◌, length}
-use Rattle.std.specs.Prelude.{option_map}
+use Rattle.std.proofs.Common.{◌≡◌, ◌++◌, length, option_map}
 use Rattle.rx_fields.specs.Words.{pieces}
 use Rattle.rx_fields.specs.Inside.FieldWords.{naturals_of}
 use Rattle.rx_fields.proofs.items.path.Given as goal

@@ -1,5 +1,4 @@
-use Rattle.std.proofs.Common.{sym, ◌∙◌}
-use Rattle.std.specs.Prelude.{codes}
+use Rattle.std.proofs.Common.{sym, ◌∙◌, codes}
 use Rattle.rx_fields.specs.Inside.FieldWords.{fault_of}
 use Rattle.rx_fields.proofs.Taking.{took-shorter, took-more, part-none, part-some, took-as, none-as, key-as}
 use Rattle.rx_fields.proofs.parts.thrown_part.Goals as goal

@@ -1,5 +1,4 @@
-use Rattle.std.proofs.Common.{◌≡◌, ℕ, ◌+◌, ◌<◌, List, ◌∷◌, ◌++◌, Option, Some, slice_index, ap, sym, ◌∙◌, length, subst, arith}
-use Rattle.std.specs.Prelude.{ℤ, FitsSigned}
+use Rattle.std.proofs.Common.{◌≡◌, ℕ, ◌+◌, ◌<◌, List, ◌∷◌, ◌++◌, Option, Some, slice_index, ap, sym, ◌∙◌, length, subst, arith, ℤ, FitsSigned}
 use Rattle.std.specs.Int.{w64}
 use Rattle.rx_text.specs.Numbers.{number_text, StandsAt}
 use Rattle.rx_kills.proofs.Marks.{kept, first-stands, sign-stands, sign-inside, second-stands, one-answer, not-none}

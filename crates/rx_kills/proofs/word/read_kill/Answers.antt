@@ -1,11 +1,10 @@
-use Rattle.std.proofs.Common.{◌≡◌, true, nat_lt, ℕ, ◌<◌, ◌≤◌, List, Option, Some, ap, sym, ◌∙◌, arith}
-use Rattle.std.specs.Prelude.{ℤ, pos, FitsSigned}
+use Rattle.std.proofs.Common.{◌≡◌, true, nat_lt, ℕ, ◌<◌, ◌≤◌, List, Option, Some, ap, sym, ◌∙◌, arith, ℤ, pos, FitsSigned}
 use Rattle.std.specs.Int.{w64}
 use mir.Val.{to_z, of_z}
 use Rattle.std.specs.Int.Signed.{lt_z}
 use lib.IntN.{nat_abs}
 use Rattle.std.proofs.lemmas.Bool.Decides.{nat_tests}
-use Rattle.rx_base.specs.declared.ids.Kill.{Kill}
+use Rattle.rx_rules.proofs.Common.{Kill}
 use Rattle.rx_kills.specs.Words.{IsKillWord}
 use Rattle.rx_kills.proofs.Marks.{kept, not-none, one-answer}
 use Rattle.rx_kills.proofs.word.read_kill.Goals as goal

@@ -1,6 +1,6 @@
 use Rattle.std.proofs.Common.{◌≡◌, ap, ◌∙◌, subst, refl, List, ℕ, Some}
 use Rattle.rx_rules.specs.declared.entries.Act.TheVariants.{At as Does}
-use Rattle.rx_rules.specs.Entries.{place_number}
+use Rattle.rx_rules.proofs.Common.{place_number}
 use Rattle.rx_finish.specs.declared.ledger.Caller.{Caller}
 use Rattle.rx_ticket.specs.declared.tickets.AnyTicket.TheVariants.{Running}
 use Rattle.rx_history.specs.declared.asks.Ask.TheVariants.{At}

@@ -1,5 +1,5 @@
 use Rattle.std.proofs.Common.{◌≡◌, ap, ◌∙◌, subst, refl, List, ℕ, None}
-use Rattle.rx_base.specs.declared.ids.ScopeId.{ScopeId}
+use Rattle.rx_rules.proofs.Common.{ScopeId}
 use Rattle.rx_rules.specs.declared.entries.Act.TheVariants.{Release as Does}
 use Rattle.rx_finish.specs.declared.ledger.Caller.{Caller}
 use Rattle.rx_finish.specs.Calls.{IsHindered}

@@ -1,7 +1,6 @@
-use Rattle.std.proofs.Common.{◌++◌}
+use Rattle.std.proofs.Common.{◌++◌, codes}
 use Rattle.rx_lines.specs.Inside.LogLines.{head_text}
 use Rattle.rx_trace.specs.Parts.{thrown_part}
-use Rattle.std.specs.Prelude.{codes}
 use Rattle.rx_lines.proofs.Telling.{joined}
 use Rattle.rx_lines.proofs.entries.put_ended.Goals as goal
 

@@ -1,5 +1,5 @@
 use Rattle.std.proofs.Common.{◌++◌, ◌∙◌, ap}
-use Rattle.rx_base.specs.declared.ids.PlaceId.{PlaceId}
+use Rattle.rx_rules.proofs.Common.{PlaceId}
 use Rattle.rx_lines.specs.Inside.LogLines.{call_line, spawn_line, arrive_line}
 use Rattle.rx_lines.proofs.Telling.{told-to}
 use Rattle.rx_lines.proofs.LogLines.{open-is, call-is, spawn-is, arrive-is, wait-is, release-is, end-is, root-is, death-is, join-is}

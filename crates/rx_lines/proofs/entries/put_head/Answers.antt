@@ -1,7 +1,6 @@
-use Rattle.std.proofs.Common.{◌++◌}
+use Rattle.std.proofs.Common.{◌++◌, codes}
 use Rattle.rx_text.specs.Numbers.{natural_text}
 use Rattle.rx_lines.specs.Replies.{numbered}
-use Rattle.std.specs.Prelude.{codes}
 use Rattle.rx_lines.proofs.Telling.{joined}
 use Rattle.rx_lines.proofs.entries.put_head.Goals as goal
 

@@ -1,5 +1,4 @@
-use Rattle.std.proofs.Common.{◌++◌}
-use Rattle.std.specs.Prelude.{codes}
+use Rattle.std.proofs.Common.{◌++◌, codes}
 use Rattle.rx_text.specs.Numbers.{natural_text}
 use Rattle.rx_lines.specs.Inside.LogLines.{release_text}
 use Rattle.rx_lines.proofs.Telling.{joined}

@@ -1,6 +1,5 @@
-use Rattle.std.proofs.Common.{◌++◌}
+use Rattle.std.proofs.Common.{◌++◌, codes}
 use Rattle.rx_lines.specs.Replies.{numbered}
-use Rattle.std.specs.Prelude.{codes}
 use Rattle.rx_lines.proofs.Telling.{joined}
 use Rattle.rx_lines.proofs.entries.put_scope.Goals as goal
 

@@ -1,6 +1,5 @@
-use Rattle.std.specs.Prelude.{◌==◌}
-use Rattle.std.proofs.Common.{◌+◌, ◌++◌, ◌∙◌, ap, sym}
-use Rattle.rx_base.specs.declared.ids.PlaceId.{PlaceId}
+use Rattle.std.proofs.Common.{◌==◌, ◌+◌, ◌++◌, ◌∙◌, ap, sym}
+use Rattle.rx_rules.proofs.Common.{PlaceId}
 use Rattle.rx_lines.specs.Inside.LogLines.{spawn_line, arrive_line}
 use Rattle.rx_lines.proofs.Telling.{told-to, joined}
 use Rattle.rx_lines.proofs.LogLines.{lost-stays, here-stays, far-lands, sent-stays, sent-lands}

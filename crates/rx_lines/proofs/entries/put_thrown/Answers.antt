@@ -1,5 +1,4 @@
-use Rattle.std.proofs.Common.{◌++◌, ◌∙◌, ap, sym, length}
-use Rattle.std.specs.Prelude.{codes}
+use Rattle.std.proofs.Common.{◌++◌, ◌∙◌, ap, sym, length, codes}
 use Rattle.std.specs.List.{flat_map}
 use Rattle.rx_trace.specs.Fields.{fault_field}
 use Rattle.rx_trace.proofs.Lines.{part-some}

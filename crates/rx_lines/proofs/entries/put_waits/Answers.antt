@@ -1,8 +1,7 @@
-use Rattle.std.proofs.Common.{◌++◌}
+use Rattle.std.proofs.Common.{◌++◌, codes}
 use Rattle.rx_lines.specs.Inside.LogLines.{head_text}
 use Rattle.rx_lines.specs.Replies.{numbered}
 use Rattle.rx_trace.specs.Parts.{thrown_part}
-use Rattle.std.specs.Prelude.{codes}
 use Rattle.rx_lines.proofs.Telling.{joined}
 use Rattle.rx_lines.proofs.entries.put_waits.Goals as goal
 

@@ -1,7 +1,6 @@
-use Rattle.std.proofs.Common.{◌≡◌, ◌++◌, refl, arith}
-use Rattle.std.specs.Prelude.{codes}
+use Rattle.std.proofs.Common.{◌≡◌, ◌++◌, refl, arith, codes}
 use Rattle.std.specs.List.{flat_map}
-use Rattle.rx_base.specs.Sets.{members}
+use Rattle.rx_rules.proofs.Common.{members}
 use Rattle.rx_trace.specs.Fields.{natural_field}
 use Rattle.rx_trace.proofs.Places.{lost-none, lost-text}
 use Rattle.rx_lines.proofs.Telling.{told-as}

@@ -1,7 +1,6 @@
-use Rattle.std.proofs.Common.{◌++◌}
+use Rattle.std.proofs.Common.{◌++◌, codes}
 use Rattle.rx_lines.specs.Replies.{fault_text}
 use Rattle.rx_trace.specs.Parts.{part_text, lost_part, masked_part}
-use Rattle.std.specs.Prelude.{codes}
 use Rattle.rx_lines.proofs.Telling.{joined}
 use Rattle.rx_lines.proofs.replies.put_outcome.Goals as goal
 

@@ -1,7 +1,6 @@
-use Rattle.std.proofs.Common.{[], ◌++◌, ◌∷◌, ap, refl, arith, drop_of_length-le}
-use Rattle.std.specs.Prelude.{filter}
+use Rattle.std.proofs.Common.{[], ◌++◌, ◌∷◌, ap, refl, arith, drop_of_length-le, filter}
 use Rattle.std.specs.List.{flat_map}
-use Rattle.rx_base.specs.Sets.{all_places, has_bit}
+use Rattle.rx_rules.proofs.Common.{all_places, has_bit}
 use Rattle.rx_trace.specs.Fields.{natural_field}
 use Rattle.rx_trace.proofs.Places.{places-more}
 use Rattle.rx_lines.proofs.Telling.{with_none, joined, whole}

@@ -1,7 +1,6 @@
-use Rattle.std.proofs.Common.{◌≡◌, ℕ, List, ◌++◌, drop}
-use Rattle.std.specs.Prelude.{filter}
+use Rattle.std.proofs.Common.{◌≡◌, ℕ, List, ◌++◌, drop, filter}
 use Rattle.std.specs.List.{flat_map}
-use Rattle.rx_base.specs.Sets.{all_places, has_bit, members}
+use Rattle.rx_rules.proofs.Common.{all_places, has_bit, members}
 use Rattle.rx_trace.specs.Fields.{natural_field}
 use Rattle.rx_lines.specs.Inside.Telling.{Puts}
 use Rattle.rx_lines.proofs.replies.put_places.Given as goal

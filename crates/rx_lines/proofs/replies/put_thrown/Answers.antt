@@ -1,5 +1,4 @@
-use Rattle.std.proofs.Common.{◌++◌, ◌∙◌, ap, sym, length}
-use Rattle.std.specs.Prelude.{codes}
+use Rattle.std.proofs.Common.{◌++◌, ◌∙◌, ap, sym, length, codes}
 use Rattle.std.specs.List.{flat_map}
 use Rattle.rx_lines.specs.Replies.{fault_text}
 use Rattle.rx_trace.proofs.Lines.{part-some}

@@ -1,5 +1,5 @@
 use Rattle.std.proofs.Common.{◌≡◌, [], sym, subst}
-use Rattle.rx_rules.specs.Terms.{Empty, no_vars, items}
+use Rattle.rx_rules.proofs.Common.{Empty, no_vars, items}
 use Rattle.rx_control.specs.declared.control.Control.{Control}
 use Rattle.rx_control.specs.Stands.{StandsFor}
 use Rattle.rx_machine.proofs.machine.root_seat.Goals as goal

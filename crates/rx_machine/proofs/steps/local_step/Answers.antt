@@ -1,5 +1,5 @@
 use Rattle.std.proofs.Common.{◌≡◌, ◌∙◌, ap, sym, subst}
-use Rattle.rx_rules.specs.Terms.{does}
+use Rattle.rx_rules.proofs.Common.{does}
 use Rattle.rx_control.specs.declared.control.Control.{Control}
 use Rattle.rx_control.specs.Stands.{StandsFor, Leaves}
 use Rattle.rx_machine.specs.declared.seat.Mover.{Mover}

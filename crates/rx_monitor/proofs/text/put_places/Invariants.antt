@@ -1,5 +1,4 @@
-use Rattle.std.proofs.Common.{◌≡◌, ◌++◌, drop}
-use Rattle.std.specs.Prelude.{filter}
+use Rattle.std.proofs.Common.{◌≡◌, ◌++◌, drop, filter}
 use Rattle.std.specs.List.{flat_map}
 use Rattle.rx_base.specs.Sets.{all_places, has_bit, members}
 use Rattle.rx_monitor.specs.Text.{field}

@@ -1,5 +1,4 @@
-use Rattle.std.proofs.Common.{rules, arith, ◌≡◌, ◌||◌, not, Some, take, sym, subst}
-use Rattle.std.specs.Prelude.{Option}
+use Rattle.std.proofs.Common.{rules, arith, ◌≡◌, ◌||◌, not, Some, take, sym, subst, Option}
 use Rattle.rx_monitor.specs.Boards.{Listing}
 use Rattle.rx_objects.specs.Shown.{BoardShows}
 use Rattle.rx_objects.proofs.Shows.{may_follow, shows_more}

@@ -1,6 +1,6 @@
 use Rattle.std.proofs.Common.{◌≡◌, List, ℕ, true, sym, subst, drop, arith}
 use Rattle.std.proofs.lemmas.List.{drop_all}
-use Rattle.rx_rules.specs.Order.{is_kept}
+use Rattle.rx_rules.proofs.Common.{is_kept}
 use Rattle.rx_order.proofs.Keeping.{kept-end}
 use Rattle.rx_order.proofs.kept.from.Goals as goal
 

@@ -1,7 +1,6 @@
 use Rattle.std.proofs.Common.{◌≡◌, ◌+◌, ◌≤◌, sym, ◌∙◌, ap, drop, arith}
 use Rattle.std.proofs.lemmas.List.{drop_all}
-use Rattle.rx_rules.specs.Code.{Block}
-use Rattle.rx_rules.specs.Order.{is_kept_in}
+use Rattle.rx_rules.proofs.Common.{Block, is_kept_in}
 use Rattle.rx_syntax.specs.Shape.{BlockStands}
 use Rattle.rx_order.specs.Inside.Parts.{is_kept_along}
 use Rattle.rx_order.proofs.Keeping.{kept-at}

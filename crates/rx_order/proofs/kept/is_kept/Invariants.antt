@@ -1,5 +1,5 @@
 use Rattle.std.proofs.Common.{◌≡◌, ◌-◌, length, drop}
-use Rattle.rx_rules.specs.Code.{Block}
+use Rattle.rx_rules.proofs.Common.{Block}
 use Rattle.rx_syntax.specs.Shape.{BlockStands}
 use Rattle.rx_order.specs.Inside.Parts.{is_kept_along}
 use Rattle.rx_order.proofs.kept.is_kept.Given as goal

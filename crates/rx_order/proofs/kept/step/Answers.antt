@@ -1,5 +1,5 @@
 use Rattle.std.proofs.Common.{◌≡◌, Bool, Some, sym, subst, drop}
-use Rattle.rx_rules.specs.Code.{Stmt as Tree}
+use Rattle.rx_rules.proofs.Common.{Stmt as Tree}
 use Rattle.rx_syntax.specs.Shape.{StmtIs}
 use Rattle.rx_order.specs.Inside.Parts.{item_of, is_kept_along, WalkGoes}
 use Rattle.rx_order.proofs.Positions.{kept-none, kept-some}

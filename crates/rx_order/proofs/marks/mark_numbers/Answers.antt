@@ -1,7 +1,6 @@
-use Rattle.std.proofs.Common.{◌≡◌, ◌∙◌, ℕ, ◌+◌, ◌≤◌, List, [], ◌∷◌, ◌++◌, sym, ap, subst, drop, append-nil, append_assoc, arith, refl}
-use Rattle.std.specs.Prelude.{Option, Some, None, option_to_list}
+use Rattle.std.proofs.Common.{◌≡◌, ◌∙◌, ℕ, ◌+◌, ◌≤◌, List, [], ◌∷◌, ◌++◌, sym, ap, subst, drop, append-nil, append_assoc, arith, refl, Option, Some, None, option_to_list}
 use Rattle.std.proofs.lemmas.List.{drop_all}
-use Rattle.rx_rules.specs.Code.{Stmt as Tree, Block}
+use Rattle.rx_rules.proofs.Common.{Stmt as Tree, Block}
 use Rattle.rx_syntax.specs.Shape.{Shape, Stands, StmtIs, BlockStands}
 use Rattle.rx_order.specs.declared.marks.Mark.{Mark}
 use Rattle.rx_order.specs.Marks.{mark_of, marks, marks_of}

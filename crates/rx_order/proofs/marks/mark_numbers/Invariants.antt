@@ -1,5 +1,5 @@
 use Rattle.std.proofs.Common.{◌≡◌, ◌-◌, ◌++◌, length, drop}
-use Rattle.rx_rules.specs.Code.{Block}
+use Rattle.rx_rules.proofs.Common.{Block}
 use Rattle.rx_syntax.specs.Shape.{Stands, BlockStands}
 use Rattle.rx_order.specs.Marks.{marks_of}
 use Rattle.rx_order.specs.Inside.Parts.{marks_along}

@@ -1,7 +1,6 @@
 use Rattle.std.proofs.Common.{◌≡◌, ◌+◌, ◌≤◌, ◌∙◌, sym, ap, subst, drop, arith}
 use Rattle.std.proofs.lemmas.List.{drop_all}
-use Rattle.rx_rules.specs.Code.{Block}
-use Rattle.rx_rules.specs.Order.{comes_before}
+use Rattle.rx_rules.proofs.Common.{Block, comes_before}
 use Rattle.rx_syntax.specs.Shape.{Shape, Stands, BlockStands}
 use Rattle.rx_order.proofs.order.is_before.Goals as goal
 

@@ -1,6 +1,5 @@
 use Rattle.std.proofs.Common.{◌≡◌, ◌-◌, length, drop}
-use Rattle.rx_rules.specs.Code.{Block}
-use Rattle.rx_rules.specs.Order.{comes_before}
+use Rattle.rx_rules.proofs.Common.{Block, comes_before}
 use Rattle.rx_syntax.specs.Shape.{Stands, BlockStands}
 use Rattle.rx_order.proofs.order.is_before.Given as goal
 

@@ -1,6 +1,5 @@
 use Rattle.std.proofs.Common.{◌≡◌, ◌+◌, ◌∙◌, Bool, Some, sym, subst, drop}
-use Rattle.rx_rules.specs.Code.{Stmt as Tree}
-use Rattle.rx_rules.specs.Order.{comes_before}
+use Rattle.rx_rules.proofs.Common.{Stmt as Tree, comes_before}
 use Rattle.rx_syntax.specs.Shape.{StmtIs}
 use Rattle.rx_order.specs.Inside.Parts.{item_of, WalkGoes}
 use Rattle.rx_order.proofs.Positions.{before-none, before-some, before-less, before-more}

@@ -1,7 +1,8 @@
 use Rattle.std.proofs.Common.{rules, ◌≡◌, ◌<◌, Some, ap, sym, ◌∙◌, w64, to_z, pos, arith}
 use Rattle.std.proofs.lemmas.Int.{ints, to_z-of_z}
 use mir.Val.{SFits}
-use Rattle.rx_rules.specs.Terms.{eval, both, number_in}
+use Rattle.rx_rules.proofs.Common.{eval}
+use Rattle.rx_rules.specs.Terms.{both, number_in}
 use Rattle.rx_syntax.specs.Shape.{op_of}
 use Rattle.rx_syntax.proofs.Within.{stands-within}
 use Rattle.rx_check.proofs.Exprs.{part-is}

@@ -1,5 +1,5 @@
 use Rattle.std.proofs.Common.{◌∙◌, ap}
-use Rattle.rx_rules.specs.Terms.{ref_in}
+use Rattle.rx_rules.proofs.Common.{ref_in}
 use Rattle.rx_plan.proofs.Plans.{set-plan, get-plan, put-plan}
 use Rattle.rx_plan.proofs.plan.make_plan.Goals as goal
 

@@ -1,5 +1,4 @@
-use Rattle.std.proofs.Common.{◌≡◌, ◌<◌, ◌≤◌, ◌+◌, length, ap, ◌∙◌, arith, rules, Some}
-use Rattle.std.specs.Prelude.{vec_len, slice_set}
+use Rattle.std.proofs.Common.{◌≡◌, ◌<◌, ◌≤◌, ◌+◌, length, ap, ◌∙◌, arith, rules, Some, vec_len, slice_set}
 use Rattle.rx_plan.specs.Inside.Kept.{padded}
 use Rattle.rx_plan.proofs.Kept.{set-kept, more-kept}
 use Rattle.rx_plan.proofs.variables.write.Goals.{then-len-i+in_ok-resize, else-len-i}

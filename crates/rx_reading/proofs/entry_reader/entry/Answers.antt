@@ -1,5 +1,4 @@
-use Rattle.std.proofs.Common.{◌≡◌, subst}
-use Rattle.std.specs.Prelude.{IfOk}
+use Rattle.std.proofs.Common.{◌≡◌, subst, IfOk}
 use Rattle.rx_reading.specs.Inside.EntryWords.{entered, if_good}
 use Rattle.rx_reading.proofs.Naming.{named_entry, unnamed_entry}
 use Rattle.rx_reading.proofs.entry_reader.entry.Goals as goal

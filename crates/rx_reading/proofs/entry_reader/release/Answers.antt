@@ -1,5 +1,4 @@
-use Rattle.std.proofs.Common.{◌≡◌, refl, subst}
-use Rattle.std.specs.Prelude.{codes, IfOk}
+use Rattle.std.proofs.Common.{◌≡◌, refl, subst, codes, IfOk}
 use Rattle.rx_reading.specs.Inside.EntryWords.{release_at, step_at, root_at, entered, if_good}
 use Rattle.rx_fields.proofs.Taking.{other-word}
 use Rattle.rx_reading.proofs.entry_reader.release.Goals as goal

@@ -1,5 +1,5 @@
 use Rattle.std.proofs.Common.{ap, sym, ◌∙◌}
-use Rattle.rx_base.specs.declared.values.Fault.{Fault}
+use Rattle.rx_rules.proofs.Common.{Fault}
 use Rattle.rx_rules.specs.declared.entries.Entry.TheVariants.{Root}
 use Rattle.rx_history.specs.Logs.{Log}
 use Rattle.rx_fields.specs.Words.{answer_left}

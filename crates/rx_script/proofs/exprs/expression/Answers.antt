@@ -1,6 +1,5 @@
-use Rattle.std.proofs.Common.{◌≡◌, List, ◌∷◌, subst, sym, ◌∙◌, ap, refl, arith, length}
-use Rattle.std.specs.Prelude.{Option, Some, None, Result, Err}
-use Rattle.rx_rules.specs.Code.{Expr}
+use Rattle.std.proofs.Common.{◌≡◌, List, ◌∷◌, subst, sym, ◌∙◌, ap, refl, arith, length, Option, Some, None, Result, Err}
+use Rattle.rx_rules.proofs.Common.{Expr}
 use Rattle.rx_script.specs.Inside.Exprs.{expr}
 use Rattle.rx_script.specs.Inside.Turns.{ExprReads, Steps}
 use Rattle.rx_syntax.specs.declared.nodes.Expr.{Expr as Part}

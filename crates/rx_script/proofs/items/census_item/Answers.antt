@@ -1,5 +1,5 @@
 use Rattle.std.proofs.Common.{refl}
-use Rattle.rx_rules.specs.Code.{Census}
+use Rattle.rx_rules.proofs.Common.{Census}
 use Rattle.rx_script.specs.Inside.Items as read
 use Rattle.rx_script.proofs.Reading.{moved}
 use Rattle.rx_script.proofs.items.census_item.Goals as goal

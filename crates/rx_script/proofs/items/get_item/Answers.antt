@@ -1,5 +1,5 @@
 use Rattle.std.proofs.Common.{ℕ, ◌∙◌}
-use Rattle.rx_rules.specs.Code.{Get}
+use Rattle.rx_rules.proofs.Common.{Get}
 use Rattle.rx_script.specs.Inside.Readers.{Reader, then, choose}
 use Rattle.rx_script.specs.Inside.Exprs.{expr}
 use Rattle.rx_script.specs.Inside.Items as read

@@ -1,5 +1,5 @@
 use Rattle.std.proofs.Common.{◌∙◌}
-use Rattle.rx_rules.specs.Code.{Expr as Tree}
+use Rattle.rx_rules.proofs.Common.{Expr as Tree}
 use Rattle.rx_script.specs.Inside.Readers.{Reader, then, choose}
 use Rattle.rx_script.specs.Inside.Exprs.{expr}
 use Rattle.rx_script.specs.Inside.Items as read

@@ -1,5 +1,5 @@
 use Rattle.std.proofs.Common.{ℕ, refl, ◌∙◌}
-use Rattle.rx_rules.specs.Code.{New}
+use Rattle.rx_rules.proofs.Common.{New}
 use Rattle.rx_syntax.specs.Grammar.{may_hold}
 use Rattle.rx_script.specs.Inside.Readers.{Reader, then, choose}
 use Rattle.rx_script.specs.Inside.Items as read

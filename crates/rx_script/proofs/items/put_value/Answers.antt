@@ -1,5 +1,5 @@
 use Rattle.std.proofs.Common.{ℕ, refl, ◌∙◌}
-use Rattle.rx_rules.specs.Code.{Expr as Tree, Put}
+use Rattle.rx_rules.proofs.Common.{Expr as Tree, Put}
 use Rattle.rx_script.specs.Inside.Readers.{Reader, done, then, choose}
 use Rattle.rx_script.specs.Inside.Exprs.{expr}
 use Rattle.rx_script.specs.Inside.Items as read

@@ -1,4 +1,4 @@
-use Rattle.rx_rules.specs.Code.{Throw}
+use Rattle.rx_rules.proofs.Common.{Throw}
 use Rattle.rx_script.specs.Inside.Readers.{done, then, choose}
 use Rattle.rx_script.specs.Inside.Exprs.{expr}
 use Rattle.rx_script.specs.Inside.Items as read

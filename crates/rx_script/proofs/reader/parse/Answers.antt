@@ -1,5 +1,5 @@
 use Rattle.std.proofs.Common.{◌≡◌, true, false, [], length, refl, sym, ap, ◌∙◌, arith}
-use Rattle.rx_rules.specs.Code.{Nothing}
+use Rattle.rx_rules.proofs.Common.{Nothing}
 use Rattle.rx_script.specs.Inside.Machine.{free, mode}
 use Rattle.rx_script.specs.Inside.Pieces.{mode_of}
 use Rattle.rx_script.proofs.Arena.{small-none}

@@ -1,5 +1,4 @@
-use Rattle.std.proofs.Common.{List, subst}
-use Rattle.std.specs.Prelude.{reverse}
+use Rattle.std.proofs.Common.{List, subst, reverse}
 use Rattle.rx_script.specs.declared.writer.Part.{Part}
 use Rattle.rx_script.specs.Inside.Unwritten.{Wrote}
 use Rattle.rx_script.proofs.Written.{last-first, wrote-more}

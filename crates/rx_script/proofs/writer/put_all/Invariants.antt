@@ -1,5 +1,4 @@
-use Rattle.std.proofs.Common.{List}
-use Rattle.std.specs.Prelude.{reverse}
+use Rattle.std.proofs.Common.{List, reverse}
 use Rattle.rx_syntax.specs.declared.token.Token.{Token}
 use Rattle.rx_script.specs.Inside.Unwritten.{PartsStand, Wrote, turns_left}
 use Rattle.rx_script.proofs.writer.put_all.Given as goal

@@ -1,5 +1,4 @@
-use Rattle.std.proofs.Common.{◌∷◌, subst}
-use Rattle.std.specs.Prelude.{reverse}
+use Rattle.std.proofs.Common.{◌∷◌, subst, reverse}
 use Rattle.rx_script.specs.declared.writer.Part.{Part}
 use Rattle.rx_script.specs.Inside.Unwritten.{PartStands, PartsStand}
 use Rattle.rx_script.proofs.Written.{both-ok, value-known, value-wrote}

@@ -1,5 +1,4 @@
-use Rattle.std.proofs.Common.{◌≡◌, ◌∙◌, ℕ, zero, suc, ◌<◌, ◌+◌, List, [], ◌∷◌, ◌++◌, ap, append_assoc, refl, arith, length}
-use Rattle.std.specs.Prelude.{replicate}
+use Rattle.std.proofs.Common.{◌≡◌, ◌∙◌, ℕ, zero, suc, ◌<◌, ◌+◌, List, [], ◌∷◌, ◌++◌, ap, append_assoc, refl, arith, length, replicate}
 use Rattle.std.proofs.lemmas.List.{length-append}
 use Rattle.rx_span.specs.declared.chains.Kept.{Kept}
 use Rattle.rx_span.specs.Inside.Kept.{none}

@@ -1,5 +1,4 @@
-use Rattle.std.proofs.Common.{◌≡◌, ℕ, ◌+◌, ◌-◌, ◌≤◌, ◌++◌, ◌∷◌, suc, length, take}
-use Rattle.std.specs.Prelude.{replicate}
+use Rattle.std.proofs.Common.{◌≡◌, ℕ, ◌+◌, ◌-◌, ◌≤◌, ◌++◌, ◌∷◌, suc, length, take, replicate}
 use Rattle.rx_span.specs.Inside.Kept.{none}
 use Rattle.rx_span.proofs.chains.lay.Given as goal
 

@@ -1,8 +1,7 @@
-use Rattle.std.specs.Prelude.{◌≡◌, ℕ, Bool, true, ◌&&◌, List, [], ◌∷◌, refl}
+use Rattle.std.proofs.Common.{◌≡◌, ℕ, Bool, true, ◌&&◌, List, [], ◌∷◌, refl}
 use Rattle.std.specs.List.{list_all}
 use Rattle.std.proofs.lemmas.Bool.{and_parts}
-use Rattle.rx_rules.specs.Examples.{orphan_script, at_waits}
-use Rattle.rx_rules.specs.Order.{told}
+use Rattle.rx_rules.proofs.Common.{orphan_script, at_waits, told}
 use Rattle.rx_span.specs.Paths.{Comes}
 use Rattle.rx_span.specs.Inside.Sorting.{comes}
 use Rattle.rx_span.specs.Examples.{script, statements}

@@ -1,7 +1,7 @@
 use Rattle.std.proofs.Common.{◌≡◌, ◌∙◌, ℕ, ◌+◌, ◌^◌, ◌<◌, ◌≤◌, List, length, map, filter, drop, ap, sym, subst, refl, arith, rules, add-one}
 use Rattle.std.proofs.lemmas.List.{length-map}
 use Rattle.rx_base.proofs.Elements.{length-push}
-use Rattle.rx_rules.specs.Code.{Block}
+use Rattle.rx_rules.proofs.Common.{Block}
 use Rattle.rx_syntax.specs.Shape.{Stands}
 use Rattle.rx_order.specs.Marks.{marks_of}
 use Rattle.rx_span.specs.Inside.Sorting.{shared, next_of, backwards}

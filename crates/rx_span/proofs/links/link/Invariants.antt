@@ -1,5 +1,5 @@
 use Rattle.std.proofs.Common.{◌≡◌, ◌+◌, ◌*◌, ◌-◌, ◌≤◌, length, map}
-use Rattle.rx_rules.specs.Code.{Block}
+use Rattle.rx_rules.proofs.Common.{Block}
 use Rattle.rx_syntax.specs.Shape.{Stands}
 use Rattle.rx_span.specs.Inside.Sorting.{next_of, backwards}
 use Rattle.rx_span.specs.Inside.Best.{best_chains}

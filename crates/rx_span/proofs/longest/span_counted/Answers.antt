@@ -2,8 +2,7 @@ use Rattle.std.proofs.Common.{◌≡◌, ◌∙◌, ℕ, ◌<◌, ◌^◌, List,
 use Rattle.std.specs.List.Sorted.{IsPermutation}
 use Rattle.std.proofs.lemmas.List.{length-map}
 use Rattle.std.proofs.lemmas.List.Sorted.{length_permutation}
-use Rattle.rx_rules.specs.Code.{Block}
-use Rattle.rx_rules.specs.Order.{told}
+use Rattle.rx_rules.proofs.Common.{Block, told}
 use Rattle.rx_syntax.specs.Shape.{Stands}
 use Rattle.rx_span.specs.Paths.{ArePaths}
 use Rattle.rx_span.specs.Inside.Sorting.{backwards}

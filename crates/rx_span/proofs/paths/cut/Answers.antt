@@ -1,5 +1,4 @@
-use Rattle.std.proofs.Common.{◌≡◌, ◌∙◌, ◌+◌, ◌≤◌, [], ◌∷◌, ◌++◌, length, map, ap, sym, arith, append_assoc, append-nil}
-use Rattle.std.specs.Prelude.{slice_index_or}
+use Rattle.std.proofs.Common.{◌≡◌, ◌∙◌, ◌+◌, ◌≤◌, [], ◌∷◌, ◌++◌, length, map, ap, sym, arith, append_assoc, append-nil, slice_index_or}
 use Rattle.std.proofs.lemmas.List.{length-map, length-append, map-append}
 use Rattle.rx_base.proofs.Elements.{empty-from}
 use Rattle.rx_span.proofs.Copied.{next}

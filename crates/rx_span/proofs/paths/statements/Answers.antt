@@ -1,12 +1,10 @@
-use Rattle.std.proofs.Common.{◌≡◌, ◌∙◌, ℕ, ◌+◌, ◌≤◌, length, List, [], ◌∷◌, ◌++◌, drop, map, sym, ap, append_assoc, append-nil, arith, refl}
-use Rattle.std.specs.Prelude.{Some, slice_get, option_to_list}
+use Rattle.std.proofs.Common.{◌≡◌, ◌∙◌, ℕ, ◌+◌, ◌≤◌, length, List, [], ◌∷◌, ◌++◌, drop, map, sym, ap, append_assoc, append-nil, arith, refl, Some, slice_get, option_to_list}
 use Rattle.std.proofs.lemmas.List.{drop_all}
 use Rattle.rx_base.proofs.Elements.{drop-next}
 use Rattle.rx_rules.specs.declared.entries.Act.{Act}
 use Rattle.rx_rules.specs.declared.entries.Entry.{Entry}
 use Rattle.rx_rules.specs.declared.entries.Entry.TheVariants.{Step, Root, Death, Join}
-use Rattle.rx_base.specs.declared.ids.TaskId.{TaskId}
-use Rattle.rx_rules.specs.Order.{told, told_in, own_path}
+use Rattle.rx_rules.proofs.Common.{TaskId, told, told_in, own_path}
 use Rattle.rx_span.proofs.paths.statements.Goals as goal
 use Rattle.rx_span.proofs.paths.statements.Goals.{in-Step+else-loop-k-test+in-Some+in_ok-add-2, in-Step+else-loop-k-test+in_default-path_of, in_default}
 

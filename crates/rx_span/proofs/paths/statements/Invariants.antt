@@ -1,5 +1,5 @@
 use Rattle.std.proofs.Common.{◌≡◌, ◌++◌, ℕ, List, drop}
-use Rattle.rx_rules.specs.Order.{told}
+use Rattle.rx_rules.proofs.Common.{told}
 use Rattle.rx_span.specs.Inside.Copied.{AreCopied}
 use Rattle.rx_span.proofs.paths.statements.Given as goal
 

@@ -1,5 +1,4 @@
-use Rattle.std.proofs.Common.{◌++◌, [], ◌∷◌, List, length, refl, subst, ap, ◌∙◌}
-use Rattle.std.specs.Prelude.{Option, Some, None}
+use Rattle.std.proofs.Common.{◌++◌, [], ◌∷◌, List, length, refl, subst, ap, ◌∙◌, Option, Some, None}
 use Rattle.std.proofs.lemmas.List.{get_or_push}
 use Rattle.rx_store.specs.declared.table.Held.{Held}
 use Rattle.rx_store.specs.Table.{AllLive}

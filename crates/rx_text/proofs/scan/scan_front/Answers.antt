@@ -1,5 +1,4 @@
-use Rattle.std.proofs.Common.{◌≡◌, ◌+◌, suc, ap, ◌∙◌, sym}
-use Rattle.std.specs.Prelude.{slice_index, negsuc, pos}
+use Rattle.std.proofs.Common.{◌≡◌, ◌+◌, suc, ap, ◌∙◌, sym, slice_index, negsuc, pos}
 use Rattle.std.proofs.lemmas.List.{take_rest}
 use Rattle.std.proofs.lemmas.Option.{same_Some, none-some}
 use Rattle.rx_text.proofs.Scanning.{plain, signed, pair-found, no-sign, has-sign, above-some, below-some, stored}

@@ -1,5 +1,4 @@
-use Rattle.std.proofs.Common.{◌≡◌, ◌++◌, drop}
-use Rattle.std.specs.Prelude.{map}
+use Rattle.std.proofs.Common.{◌≡◌, ◌++◌, drop, map}
 use Rattle.rx_history.specs.Events.{events_of}
 use Rattle.rx_trace.specs.EventLines.{journals_lines}
 use Rattle.rx_trace.proofs.event_lines.put_journals.Given as goal

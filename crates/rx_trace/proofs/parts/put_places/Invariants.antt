@@ -1,7 +1,6 @@
-use Rattle.std.proofs.Common.{◌≡◌, ◌++◌, drop}
-use Rattle.std.specs.Prelude.{filter}
+use Rattle.std.proofs.Common.{◌≡◌, ◌++◌, drop, filter}
 use Rattle.std.specs.List.{flat_map}
-use Rattle.rx_base.specs.Sets.{all_places, has_bit, members}
+use Rattle.rx_rules.proofs.Common.{all_places, has_bit, members}
 use Rattle.rx_trace.specs.Fields.{natural_field}
 use Rattle.rx_trace.proofs.parts.put_places.Given as goal
 

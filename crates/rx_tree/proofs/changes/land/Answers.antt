@@ -1,4 +1,4 @@
-use Rattle.rx_rules.specs.Tree.{is_task}
+use Rattle.rx_rules.proofs.Common.{is_task}
 use Rattle.rx_tree.proofs.Firsts.{at_first, none_changes}
 use Rattle.rx_rules.specs.declared.tasks.Where.TheVariants.{At}
 use Rattle.rx_tree.proofs.changes.land.Goals as goal

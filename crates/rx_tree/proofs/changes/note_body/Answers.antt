@@ -1,4 +1,4 @@
-use Rattle.rx_rules.specs.Tree.{is_scope}
+use Rattle.rx_rules.proofs.Common.{is_scope}
 use Rattle.rx_tree.proofs.Firsts.{at_first, none_changes}
 use Rattle.rx_tree.proofs.changes.note_body.Goals as goal
 

@@ -1,5 +1,5 @@
 use Rattle.std.proofs.Common.{◌++◌}
-use Rattle.rx_rules.specs.Tree.{is_scope}
+use Rattle.rx_rules.proofs.Common.{is_scope}
 use Rattle.rx_tree.proofs.Firsts.{none_changes}
 use Rattle.rx_tree.proofs.Leaves.{noted}
 use Rattle.rx_tree.proofs.changes.note_ends.Goals as goal

@@ -1,5 +1,5 @@
 use Rattle.std.proofs.Common.{◌≡◌, ◌++◌, drop, take, map}
-use Rattle.rx_rules.specs.Entries.{hit}
+use Rattle.rx_rules.proofs.Common.{hit}
 use Rattle.rx_tree.proofs.changes.strike_all.Given as goal
 
 abbrev pub invariant-loop-x : goal.invariant-loop-x

@@ -1,5 +1,5 @@
 use Rattle.std.proofs.Common.{◌≡◌, find, drop}
-use Rattle.rx_rules.specs.Tree.{is_task}
+use Rattle.rx_rules.proofs.Common.{is_task}
 use Rattle.rx_tree.proofs.lookups.find_gone.Given as goal
 
 abbrev pub invariant-loop-x : goal.invariant-loop-x

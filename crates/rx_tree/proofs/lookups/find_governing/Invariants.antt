@@ -1,6 +1,5 @@
-use Rattle.std.proofs.Common.{◌≡◌, ◌-◌, ◌≤◌, length, drop}
-use Rattle.std.specs.Prelude.{Some}
-use Rattle.rx_rules.specs.Tree.{governing_in}
+use Rattle.std.proofs.Common.{◌≡◌, ◌-◌, ◌≤◌, length, drop, Some}
+use Rattle.rx_rules.proofs.Common.{governing_in}
 use Rattle.rx_tree.proofs.lookups.find_governing.Given as goal
 
 abbrev pub invariant-up : goal.invariant-up

@@ -1,4 +1,4 @@
-use Rattle.rx_rules.specs.Tree.{is_task}
+use Rattle.rx_rules.proofs.Common.{is_task}
 use Rattle.rx_tree.proofs.Falling.{find_first, find_nothing}
 use Rattle.rx_tree.proofs.lookups.find_task.Goals as goal
 

@@ -1,8 +1,7 @@
-use Rattle.std.specs.Prelude.{◌&&◌}
+use Rattle.std.proofs.Common.{◌&&◌, ◌∙◌, ap, ◌≡◌, take, arith}
 use Rattle.std.specs.List.{list_any}
-use Rattle.std.proofs.Common.{◌∙◌, ap, ◌≡◌, take, arith}
 use Rattle.std.proofs.lemmas.Grind.{common_steps}
-use Rattle.rx_rules.specs.Entries.{was_lost_at}
+use Rattle.rx_rules.proofs.Common.{was_lost_at}
 use Rattle.rx_tree.specs.Inside.Removal.{holds_scope}
 use Rattle.rx_tree.proofs.Leaves.{members_are}
 use Rattle.rx_tree.proofs.removal.lost_places.Goals as goal

@@ -1,7 +1,6 @@
 use Rattle.std.proofs.Common.{◌≡◌, ◌&&◌, ℕ, ◌<◌, take}
 use Rattle.std.specs.List.{list_any}
-use Rattle.rx_base.specs.Sets.{has_bit}
-use Rattle.rx_rules.specs.Entries.{was_lost_at}
+use Rattle.rx_rules.proofs.Common.{has_bit, was_lost_at}
 use Rattle.rx_tree.specs.Inside.Removal.{holds_scope}
 use Rattle.rx_tree.proofs.removal.lost_places.Given as goal
 

@@ -1,5 +1,5 @@
 use Rattle.std.proofs.Common.{◌≡◌, ◌++◌, ◌&&◌, min, not, filter, length, sum_by, take}
-use Rattle.rx_rules.specs.Tree.{is_scope}
+use Rattle.rx_rules.proofs.Common.{is_scope}
 use Rattle.rx_tree.specs.Inside.Removal.{holds_scope}
 use Rattle.rx_tree.proofs.removal.masked_faults.Given as goal
 

@@ -1,7 +1,6 @@
-use Rattle.std.proofs.Common.{◌≡◌, take, map, filter}
-use Rattle.std.specs.Prelude.{Some}
+use Rattle.std.proofs.Common.{◌≡◌, take, map, filter, Some}
 use Rattle.std.specs.List.{list_any}
-use Rattle.rx_rules.specs.Tree.{is_scope, chain_in}
+use Rattle.rx_rules.proofs.Common.{is_scope, chain_in}
 use Rattle.rx_tree.proofs.removal.scopes_under.Given as goal
 
 abbrev pub invariant-loop-g : goal.invariant-loop-g

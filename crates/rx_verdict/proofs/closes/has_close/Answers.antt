@@ -1,6 +1,5 @@
-use Rattle.std.proofs.Common.{ap, ◌∙◌}
-use Rattle.std.specs.Prelude.{Some}
-use Rattle.rx_rules.specs.Run.{close_in}
+use Rattle.std.proofs.Common.{ap, ◌∙◌, Some}
+use Rattle.rx_rules.proofs.Common.{close_in}
 use Rattle.rx_verdict.proofs.EventsOfJournals.{closes-some, closes-none}
 use Rattle.rx_verdict.proofs.closes.has_close.Goals as goal
 

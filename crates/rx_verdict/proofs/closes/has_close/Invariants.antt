@@ -1,6 +1,6 @@
 use Rattle.std.proofs.Common.{◌≡◌, [], take}
 use Rattle.std.specs.List.{filter_map}
-use Rattle.rx_rules.specs.Run.{close_in}
+use Rattle.rx_rules.proofs.Common.{close_in}
 use Rattle.rx_verdict.proofs.closes.has_close.Given as goal
 
 abbrev pub invariant-loop-i : goal.invariant-loop-i

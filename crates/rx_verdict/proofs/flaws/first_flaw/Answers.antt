@@ -1,6 +1,5 @@
-use Rattle.std.proofs.Common.{◌<◌, ℕ, length, subst, ap, arith, below_more}
-use Rattle.std.specs.Prelude.{None, slice_index_or}
-use Rattle.rx_rules.specs.Plays.{journal_at}
+use Rattle.std.proofs.Common.{◌<◌, ℕ, length, subst, ap, arith, below_more, None, slice_index_or}
+use Rattle.rx_rules.proofs.Common.{journal_at}
 use Rattle.rx_history.specs.Logs.{Log}
 use Rattle.rx_history.specs.Events.{events_of}
 use Rattle.rx_verdict.specs.Marked.{row_at}

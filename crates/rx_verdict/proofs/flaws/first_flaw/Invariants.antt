@@ -1,5 +1,5 @@
 use Rattle.std.proofs.Common.{ℕ, ◌<◌, length}
-use Rattle.rx_rules.specs.Plays.{journal_at}
+use Rattle.rx_rules.proofs.Common.{journal_at}
 use Rattle.rx_history.specs.Events.{events_of}
 use Rattle.rx_verdict.specs.Flaws.{IsSound}
 use Rattle.rx_verdict.proofs.flaws.first_flaw.Given as goal

@@ -1,5 +1,4 @@
-use Rattle.std.proofs.Common.{◌<◌, length, sym, subst, ◌∙◌, arith, below_more}
-use Rattle.std.specs.Prelude.{slice_get}
+use Rattle.std.proofs.Common.{◌<◌, length, sym, subst, ◌∙◌, arith, below_more, slice_get}
 use Rattle.std.proofs.lemmas.Bool.{true≢false}
 use Rattle.rx_verdict.specs.Marked.{row_at}
 use Rattle.rx_verdict.specs.Flaws.{CauseBy, CauseAt}

@@ -1,5 +1,4 @@
-use Rattle.std.proofs.Common.{ℕ, ◌<◌}
-use Rattle.std.specs.Prelude.{slice_get}
+use Rattle.std.proofs.Common.{ℕ, ◌<◌, slice_get}
 use Rattle.rx_verdict.specs.Marked.{row_at}
 use Rattle.rx_verdict.specs.Flaws.{CauseAt}
 use Rattle.rx_verdict.proofs.flaws.first_in.Given as goal

@@ -1,7 +1,7 @@
 use Rattle.std.proofs.Common.{Some, refl, ap, sym, subst}
 use Rattle.rx_rules.specs.declared.entries.Act.{Act}
 use Rattle.rx_rules.specs.declared.entries.Act.TheVariants.{At, Spawn}
-use Rattle.rx_rules.specs.Terms.{begins}
+use Rattle.rx_rules.proofs.Common.{begins}
 use Rattle.rx_verdict.specs.Walks.{next_does}
 use Rattle.rx_verify.specs.declared.players.Slot.{Slot}
 use Rattle.rx_verify.specs.Inside.Requests.{IsAsked, IsNewborn}

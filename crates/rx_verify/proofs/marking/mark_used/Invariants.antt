@@ -1,5 +1,5 @@
 use Rattle.std.proofs.Common.{◌≤◌, ◌-◌}
-use Rattle.rx_rules.specs.Plays.{journal_at}
+use Rattle.rx_rules.proofs.Common.{journal_at}
 use Rattle.rx_history.specs.Events.{events_of}
 use Rattle.rx_verify.specs.Events.{IsFirst}
 use Rattle.rx_verify.specs.Marked.{MarksUsed}

@@ -1,6 +1,6 @@
 use Rattle.std.proofs.Common.{[], ◌∙◌, sym, ap}
 use Rattle.std.proofs.lemmas.Bool.{true≢false}
-use Rattle.rx_rules.specs.Terms.{Empty, replaced}
+use Rattle.rx_rules.proofs.Common.{Empty, replaced}
 use Rattle.rx_history.specs.Next.{carried}
 use Rattle.rx_verify.proofs.AdmitRequests.{granted_none, granted_wait}
 use Rattle.rx_verify.proofs.requests.wait.Goals as goal

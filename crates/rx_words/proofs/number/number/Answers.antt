@@ -1,5 +1,4 @@
-use Rattle.std.proofs.Common.{◌≡◌, ℕ, ◌<◌, ◌^◌, false, Some, length, ap, sym, ◌∙◌, refl, arith}
-use Rattle.std.specs.Prelude.{ℤ, pos, FitsSigned}
+use Rattle.std.proofs.Common.{◌≡◌, ℕ, ◌<◌, ◌^◌, false, Some, length, ap, sym, ◌∙◌, refl, arith, ℤ, pos, FitsSigned}
 use lib.IntN.{nat_abs}
 use mir.Val.{to_z, of_z}
 use Rattle.std.specs.Int.{w64}

@@ -1,5 +1,5 @@
 use Rattle.std.proofs.Common.{◌≡◌, drop, map}
-use Rattle.rx_base.specs.Lists.{has}
+use Rattle.rx_rules.proofs.Common.{has}
 use Rattle.rx_words.specs.Commands.{place_of}
 use Rattle.rx_words.proofs.planned.names.Given as goal
 

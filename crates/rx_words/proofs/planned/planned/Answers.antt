@@ -1,7 +1,7 @@
 use Rattle.std.proofs.Common.{◌≡◌, ◌∙◌, ℕ, ◌+◌, List, [], ◌∷◌, ◌++◌, drop, get_or, subst, sym, ap, append-nil, map}
 use Rattle.std.specs.List.Sorted.{IsPermutation, IsSortedBy}
 use Rattle.std.proofs.lemmas.List.{drop_all, at_drop_more}
-use Rattle.rx_base.specs.declared.ids.Kill.{Kill}
+use Rattle.rx_rules.proofs.Common.{Kill}
 use Rattle.rx_history.specs.KillOrder.{IsAscending, is_before}
 use Rattle.rx_words.specs.Commands.{kill_in}
 use Rattle.rx_words.proofs.KillPlans.{sorted-ascends, sorted-is, comes-last}

@@ -1,5 +1,5 @@
 use Rattle.std.proofs.Common.{rules, ◌≡◌, None, sym, subst}
-use Rattle.rx_rules.specs.Run.{Given, Proper}
+use Rattle.rx_rules.proofs.Common.{Given, Proper}
 use Rattle.rx_words.specs.Words.{setup_of, first_bad}
 use Rattle.rx_words.specs.Commands.{wants_of}
 use Rattle.rx_words.proofs.Proper.{setup-proper}

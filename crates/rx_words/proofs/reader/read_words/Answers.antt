@@ -1,5 +1,4 @@
-use Rattle.std.proofs.Common.{rules, ◌≡◌, sym, ◌∙◌, subst}
-use Rattle.std.specs.Prelude.{IfOk}
+use Rattle.std.proofs.Common.{rules, ◌≡◌, sym, ◌∙◌, subst, IfOk}
 use Rattle.rx_words.specs.Words.{Asked, asked, alone, Check, Verify, Span}
 use Rattle.rx_words.specs.Commands.{IsAsked, IsProper}
 use Rattle.rx_words.proofs.reader.read_words.Goals as goal

@@ -1,5 +1,4 @@
-use Rattle.std.specs.Prelude.{ℕ, Option, Some, refl}
-use Rattle.std.proofs.Common.{sym, ◌∙◌, subst}
+use Rattle.std.proofs.Common.{ℕ, Option, Some, refl, sym, ◌∙◌, subst}
 use Rattle.rx_words.specs.declared.kind.Kind.{Kind}
 use Rattle.rx_words.specs.Words.{number_of, taken}
 use Rattle.rx_words.specs.Commands.{wants_of, IsTaken}

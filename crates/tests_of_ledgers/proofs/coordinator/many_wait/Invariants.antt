@@ -1,4 +1,4 @@
-use Rattle.std.specs.Prelude.{ℕ, List}
+use Rattle.std.proofs.Common.{ℕ, List}
 use Rattle.rx_rules.specs.declared.entries.Entry.{Entry}
 use Rattle.rx_coordinator.specs.Parking.{Parks}
 use Rattle.tests_of_ledgers.proofs.coordinator.many_wait.Given as goal

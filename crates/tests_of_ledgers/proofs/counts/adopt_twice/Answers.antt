@@ -1,5 +1,5 @@
 use Rattle.std.proofs.Common.{lit<}
-use Rattle.rx_rules.specs.Fold.{opening}
+use Rattle.rx_rules.proofs.Common.{opening}
 use Rattle.rx_counts.specs.Stands.{StandsFor}
 use Rattle.rx_counts.specs.Inside.Nesting.{nested, landed}
 use Rattle.rx_counts.proofs.Nested.{can_first, first_lands, first_calls, asked, asked_stands, callee_lands, served, callee_nests, inner_lands, inner_ends, inner_ended, inner_dies, inner_lost, outer_dies, outer_lost, outer_waits}

@@ -1,4 +1,4 @@
-use Rattle.rx_rules.specs.Fold.{opening}
+use Rattle.rx_rules.proofs.Common.{opening}
 use Rattle.rx_counts.specs.Stands.{StandsFor}
 use Rattle.rx_counts.proofs.Nested.{main_calls, called, called_stands, root_there}
 use Rattle.tests_of_ledgers.proofs.counts.call.Goals as goal

@@ -1,7 +1,6 @@
-use Rattle.std.specs.Prelude.{refl}
-use Rattle.std.proofs.Common.{sym, ◌∙◌, lit<}
+use Rattle.std.proofs.Common.{refl, sym, ◌∙◌, lit<}
 use Rattle.rx_rules.specs.declared.tasks.Where.TheVariants.{At}
-use Rattle.rx_rules.specs.Fold.{opening}
+use Rattle.rx_rules.proofs.Common.{opening}
 use Rattle.rx_counts.specs.Stands.{StandsFor}
 use Rattle.rx_counts.specs.Inside.Nesting.{place, caller, nested}
 use Rattle.rx_counts.proofs.Nested.{can_first, waits_early, target_dies, target_lost, still_stands}

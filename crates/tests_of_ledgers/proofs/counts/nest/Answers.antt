@@ -1,8 +1,6 @@
-use Rattle.std.specs.Prelude.{◌+◌, List}
-use Rattle.std.proofs.Common.{subst}
-use Rattle.rx_base.specs.declared.values.Fault.{Fault}
+use Rattle.std.proofs.Common.{◌+◌, List, subst}
+use Rattle.rx_rules.proofs.Common.{Fault, made_act}
 use Rattle.rx_rules.specs.declared.entries.Act.TheVariants.{Wait}
-use Rattle.rx_rules.specs.Entries.{made_act}
 use Rattle.rx_counts.specs.Stands.{StandsFor}
 use Rattle.rx_counts.specs.Inside.Nesting.{task, scope, opens, starts}
 use Rattle.rx_counts.proofs.Nested.{opened_nest, started_nest}

@@ -1,4 +1,4 @@
-use Rattle.rx_rules.specs.Fold.{opening}
+use Rattle.rx_rules.proofs.Common.{opening}
 use Rattle.rx_counts.specs.Stands.{StandsFor}
 use Rattle.rx_counts.specs.Inside.Nesting.{nested, landed}
 use Rattle.rx_counts.proofs.Nested.{arrived, can_first, can_second, first_lands, second_lands, two_places}

@@ -1,9 +1,6 @@
-use Rattle.std.specs.Prelude.{List, refl}
-use Rattle.std.proofs.Common.{subst, lit<}
-use Rattle.rx_base.specs.declared.values.Fault.{Fault}
+use Rattle.std.proofs.Common.{List, refl, subst, lit<}
+use Rattle.rx_rules.proofs.Common.{Fault, made_act, opening}
 use Rattle.rx_rules.specs.declared.entries.Act.TheVariants.{End}
-use Rattle.rx_rules.specs.Entries.{made_act}
-use Rattle.rx_rules.specs.Fold.{opening}
 use Rattle.rx_counts.specs.Stands.{StandsFor}
 use Rattle.rx_counts.specs.Inside.Nesting.{task, nested, landed}
 use Rattle.rx_counts.proofs.Nested.{can_first, first_lands, first_ends, first_ended, main_waits}

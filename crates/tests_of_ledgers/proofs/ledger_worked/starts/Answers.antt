@@ -1,5 +1,5 @@
 use Rattle.std.proofs.Common.{ap, ◌∙◌, refl, Some, arith}
-use Rattle.rx_base.specs.declared.ids.TaskId.{TaskId}
+use Rattle.rx_rules.proofs.Common.{TaskId}
 use Rattle.rx_rules.proofs.Append.{tree-places}
 use Rattle.rx_ticket.specs.declared.tickets.AnyTicket.TheVariants.{Running}
 use Rattle.rx_history.specs.declared.asks.Ask.TheVariants.{Spawn}

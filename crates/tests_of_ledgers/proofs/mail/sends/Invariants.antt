@@ -1,4 +1,4 @@
-use Rattle.std.specs.Prelude.{◌≡◌}
+use Rattle.std.proofs.Common.{◌≡◌}
 use Rattle.tests_of_ledgers.proofs.mail.sends.Given as goal
 
 abbrev pub invariant-loop-k : goal.invariant-loop-k

@@ -1,11 +1,7 @@
-use Rattle.std.specs.Prelude.{List, [], refl}
-use Rattle.std.proofs.Common.{subst, lit<}
-use Rattle.rx_base.specs.declared.values.Fault.{Fault}
+use Rattle.std.proofs.Common.{List, [], refl, subst, lit<}
+use Rattle.rx_rules.proofs.Common.{Fault, Tree, made_act, opening}
 use Rattle.rx_rules.specs.declared.tasks.Where.TheVariants.{At}
 use Rattle.rx_rules.specs.declared.entries.Act.TheVariants.{Open, Spawn, Wait}
-use Rattle.rx_rules.specs.Tree.{Tree}
-use Rattle.rx_rules.specs.Entries.{made_act}
-use Rattle.rx_rules.specs.Fold.{opening}
 use Rattle.rx_finish.specs.Callers.{MayAsk, MayAskMoving, MayAskTo, IsMoving, HasFinish}
 use Rattle.rx_finish.proofs.Worked.{who, tk, sc, pl, asks, opened_next, spawned_next}
 use Rattle.tests_of_ledgers.proofs.tree.begins.Goals as goal

@@ -1,8 +1,6 @@
-use Rattle.std.specs.Prelude.{List}
-use Rattle.std.proofs.Common.{subst}
-use Rattle.rx_base.specs.declared.values.Fault.{Fault}
+use Rattle.std.proofs.Common.{List, subst}
+use Rattle.rx_rules.proofs.Common.{Fault, made_act}
 use Rattle.rx_rules.specs.declared.entries.Act.TheVariants.{End}
-use Rattle.rx_rules.specs.Entries.{made_act}
 use Rattle.tests_of_ledgers.proofs.tree.ends.Goals as goal
 
 pub end-requires : goal.end-requires

@@ -1,10 +1,7 @@
-use Rattle.std.specs.Prelude.{[], refl}
-use Rattle.std.proofs.Common.{lit<}
+use Rattle.std.proofs.Common.{[], refl, lit<}
 use Rattle.rx_rules.specs.declared.tasks.Where.TheVariants.{At, Travel}
 use Rattle.rx_rules.specs.declared.entries.Act.TheVariants.{Open, Spawn, Arrive, Wait, End}
-use Rattle.rx_rules.specs.Tree.{Tree}
-use Rattle.rx_rules.specs.Entries.{made_act, change_task, resumed, without}
-use Rattle.rx_rules.specs.Fold.{opening}
+use Rattle.rx_rules.proofs.Common.{Tree, made_act, change_task, resumed, without, opening}
 use Rattle.rx_finish.specs.Callers.{MayAsk, IsMoving, Travels, WaitsInside, IsBare}
 use Rattle.rx_finish.proofs.Worked.{who, tk, sc, pl, asks}
 use Rattle.tests_of_ledgers.proofs.tree.first_path.Goals as goal

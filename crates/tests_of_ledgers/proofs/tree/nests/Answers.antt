@@ -1,9 +1,7 @@
-use Rattle.std.specs.Prelude.{List, refl}
-use Rattle.std.proofs.Common.{subst, lit<}
-use Rattle.rx_base.specs.declared.values.Fault.{Fault}
+use Rattle.std.proofs.Common.{List, refl, subst, lit<}
+use Rattle.rx_rules.proofs.Common.{Fault, made_act}
 use Rattle.rx_rules.specs.declared.tasks.Where.TheVariants.{At, Travel}
 use Rattle.rx_rules.specs.declared.entries.Act.TheVariants.{Wait}
-use Rattle.rx_rules.specs.Entries.{made_act}
 use Rattle.rx_finish.proofs.Worked.{who, tk, sc, pl, opened_next, spawned_next}
 use Rattle.rx_tree.proofs.Nested.{sent, sent_arrives, landed, landed_opens, within, within_spawns, started, started_waits, awaited, awaited_arrives, arrived}
 use Rattle.tests_of_ledgers.proofs.tree.nests.Goals as goal

@@ -1,9 +1,6 @@
-use Rattle.std.specs.Prelude.{◌≡◌, pos, List, [], ◌∷◌}
-use Rattle.std.proofs.Common.{subst, rules}
-use Rattle.rx_base.specs.declared.values.Fault.TheVariants.{Thrown}
-use Rattle.rx_base.specs.declared.values.Fault.{Fault}
+use Rattle.std.proofs.Common.{◌≡◌, pos, List, [], ◌∷◌, subst, rules}
+use Rattle.rx_rules.proofs.Common.{Thrown, Fault, made_act}
 use Rattle.rx_rules.specs.declared.entries.Act.TheVariants.{End}
-use Rattle.rx_rules.specs.Entries.{made_act}
 use Rattle.tests_of_ledgers.proofs.tree.throws.Goals as goal
 
 pub end-requires : goal.end-requires

@@ -1,7 +1,6 @@
 use Rattle.std.proofs.Common.{◌≡◌, ℕ, [], sym, subst}
 use Rattle.std.specs.Result.{IfOk}
-use Rattle.rx_rules.specs.Code.{Block}
-use Rattle.rx_rules.specs.Terms.{Empty, items, no_vars}
+use Rattle.rx_rules.proofs.Common.{Block, Empty, items, no_vars}
 use Rattle.rx_syntax.specs.Shape.{Stands}
 use Rattle.rx_control.specs.declared.control.Control.{Control}
 use Rattle.rx_control.specs.Stands.{StandsFor}

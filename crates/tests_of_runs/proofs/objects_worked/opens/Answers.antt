@@ -1,5 +1,5 @@
 use Rattle.std.proofs.Common.{◌≡◌, [], Some, None, ap, sym, ◌∙◌, subst, refl}
-use Rattle.rx_rules.specs.Terms.{Term, Empty, items, does, Vars}
+use Rattle.rx_rules.proofs.Common.{Term, Empty, items, does, Vars}
 use Rattle.rx_syntax.specs.Shape.{Stands}
 use Rattle.rx_check.specs.Checked.{Checked}
 use Rattle.rx_history.specs.Next.{next_of}

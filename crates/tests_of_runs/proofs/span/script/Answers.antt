@@ -1,5 +1,5 @@
 use Rattle.std.proofs.Common.{◌≡◌, ◌∙◌, ℕ, zero, suc, pos, ◌<◌, ◌^◌, List, [], ◌∷◌, map, length, Some, None, slice_get, refl, ap, sym, subst, arith}
-use Rattle.rx_rules.specs.Code.{Block, Nothing, Then, Num, Print}
+use Rattle.rx_rules.proofs.Common.{Block, Nothing, Then, Num, Print}
 use Rattle.rx_syntax.specs.declared.nodes.StmtId.{StmtId}
 use Rattle.rx_syntax.specs.declared.nodes.Expr.{Expr as Part}
 use Rattle.rx_syntax.specs.declared.nodes.Expr.TheVariants.{Num as NumPart}

@@ -1,4 +1,4 @@
-use Rattle.rx_rules.specs.Terms.{Term}
+use Rattle.rx_rules.proofs.Common.{Term}
 use Rattle.rx_control.specs.Stands.{StandsFor}
 use Rattle.tests_of_scripts.proofs.control.follow.Given as goal
 

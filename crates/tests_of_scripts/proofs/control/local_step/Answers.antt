@@ -1,5 +1,5 @@
 use Rattle.std.proofs.Common.{subst}
-use Rattle.rx_rules.specs.Terms.{Does, does}
+use Rattle.rx_rules.proofs.Common.{Does, does}
 use Rattle.rx_control.specs.Stands.{Leaves}
 use Rattle.rx_plan.proofs.Told.{told_local}
 use Rattle.tests_of_scripts.proofs.control.local_step.Goals as goal

@@ -1,4 +1,4 @@
-use Rattle.rx_rules.specs.Terms.{does}
+use Rattle.rx_rules.proofs.Common.{does}
 use Rattle.rx_plan.proofs.Told.{told_wait}
 use Rattle.tests_of_scripts.proofs.control.waits.Goals as goal
 

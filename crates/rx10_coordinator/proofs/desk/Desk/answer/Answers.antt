@@ -1,5 +1,4 @@
-use Rattle.std.proofs.Common.{◌∙◌, true, refl, sym}
-use Rattle.std.specs.Prelude.{codes}
+use Rattle.std.proofs.Common.{◌∙◌, true, refl, sym, codes}
 use Rattle.rx_lines.specs.Session.Answered.{malformed, unread}
 use Rattle.rx10_coordinator.proofs.desk.Desk.answer.Goals as goal
 

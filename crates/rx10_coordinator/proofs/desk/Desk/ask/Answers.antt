@@ -1,5 +1,4 @@
-use Rattle.std.proofs.Common.{◌++◌, true, refl}
-use Rattle.std.specs.Prelude.{codes}
+use Rattle.std.proofs.Common.{◌++◌, true, refl, codes}
 use Rattle.rx_lines.specs.Replies.{answer_line}
 use Rattle.rx_lines.specs.Session.{freed_lines}
 use Rattle.rx_lines.specs.Session.Answered.{unread, replied}

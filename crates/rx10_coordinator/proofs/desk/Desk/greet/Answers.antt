@@ -1,5 +1,4 @@
-use Rattle.std.proofs.Common.{ℕ, ◌++◌, ap}
-use Rattle.std.specs.Prelude.{codes}
+use Rattle.std.proofs.Common.{ℕ, ◌++◌, ap, codes}
 use Rattle.rx_text.specs.Numbers.{natural_text}
 use Rattle.rx_lines.proofs.Telling.{joined, told-as}
 use Rattle.rx10_coordinator.proofs.desk.Desk.greet.Goals as goal

@@ -1,6 +1,5 @@
-use Rattle.std.proofs.Common.{◌≡◌, Option, ◌∙◌, ap, subst}
-use Rattle.std.specs.Prelude.{IfOk}
-use Rattle.rx_rules.specs.Fold.{tree_of}
+use Rattle.std.proofs.Common.{◌≡◌, Option, ◌∙◌, ap, subst, IfOk}
+use Rattle.rx_rules.proofs.Common.{tree_of}
 use Rattle.rx_coordinator.specs.declared.seats.Seat.{Seat}
 use Rattle.rx_coordinator.specs.Telling.{seat_told}
 use Rattle.rx_lines.specs.Inside.Noting.{note_of}

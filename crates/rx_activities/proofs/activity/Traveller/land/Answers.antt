@@ -1,5 +1,5 @@
 use Rattle.std.proofs.Common.{sym, ◌∙◌, subst, refl, [], None}
-use Rattle.rx_base.specs.declared.ids.PlaceId.{PlaceId}
+use Rattle.rx_rules.proofs.Common.{PlaceId}
 use Rattle.rx_check.specs.Checked.{Checked}
 use Rattle.rx_history.specs.declared.asks.Ask.TheVariants.{Arrive}
 use Rattle.rx_syntax.specs.Shape.{Stands}

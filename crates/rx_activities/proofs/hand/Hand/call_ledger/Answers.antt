@@ -1,6 +1,5 @@
 use Rattle.std.proofs.Common.{◌≡◌, sym, subst, refl}
-use Rattle.rx_base.specs.declared.ids.PlaceId.{PlaceId}
-use Rattle.rx_rules.specs.Terms.{Term, Vars, does, begins}
+use Rattle.rx_rules.proofs.Common.{PlaceId, Term, Vars, does, begins}
 use Rattle.rx_syntax.specs.Shape.{Shape, Stands}
 use Rattle.rx_check.specs.Checked.{Checked}
 use Rattle.rx_control.specs.declared.control.Control.{Control}

@@ -1,5 +1,5 @@
 use Rattle.std.proofs.Common.{◌≡◌, Some, ap, sym, ◌∙◌, subst, ◌++◌, [], ◌∷◌, List, ℕ}
-use Rattle.rx_rules.specs.Terms.{Term, begins, answered, answer_of, receives, vars_after}
+use Rattle.rx_rules.proofs.Common.{Term, begins, answered, answer_of, receives, vars_after}
 use Rattle.rx_control.specs.declared.control.Control.{Control}
 use Rattle.rx_control.specs.Stands.{StandsFor}
 use Rattle.rx_book.specs.Named.{BookName}

@@ -1,8 +1,6 @@
 use Rattle.std.proofs.Common.{◌≡◌, ◌≤◌, ℕ, List, [], sym, ◌∙◌, subst}
-use Rattle.rx_base.specs.declared.ids.PlaceId.{PlaceId}
+use Rattle.rx_rules.proofs.Common.{PlaceId, Term, does, granted, vars_told}
 use Rattle.rx_rules.specs.declared.entries.Act.TheVariants.{Census as CensusAct}
-use Rattle.rx_rules.specs.Terms.{Term, does, granted}
-use Rattle.rx_rules.specs.Plays.{vars_told}
 use Rattle.rx_control.specs.declared.control.Control.{Control}
 use Rattle.rx_history.specs.declared.step.Next.TheVariants.{Book as BookStep}
 use Rattle.rx_history.specs.declared.step.Want.TheVariants.{Census as WantCensus}

@@ -1,5 +1,5 @@
 use Rattle.std.proofs.Common.{ap, sym, ◌∙◌, subst}
-use Rattle.rx_rules.specs.Terms.{Term, granted}
+use Rattle.rx_rules.proofs.Common.{Term, granted}
 use Rattle.rx_control.specs.declared.control.Control.{Control}
 use Rattle.rx_control.specs.Stands.{StandsFor}
 use Rattle.rx_ledger.proofs.Keepers.{ok_holds}

@@ -1,8 +1,7 @@
 use Rattle.std.proofs.Common.{◌≡◌, sym, subst}
 use Rattle.std.proofs.lemmas.Result.{on_ok_weaker}
 use Rattle.std.specs.Global.{Box}
-use Rattle.rx_rules.specs.Terms.{Term, does}
-use Rattle.rx_rules.specs.Plays.{begun}
+use Rattle.rx_rules.proofs.Common.{Term, does, begun}
 use Rattle.rx_control.specs.declared.control.Control.{Control}
 use Rattle.rx_control.specs.Stands.{StandsFor, Leaves}
 use Rattle.rx_activities.specs.declared.hand.Hand.{Hand}

@@ -1,5 +1,5 @@
 use Rattle.std.proofs.Common.{◌≡◌, None, List, ap, sym, subst}
-use Rattle.rx_base.specs.declared.values.Fault.{Fault}
+use Rattle.rx_rules.proofs.Common.{Fault}
 use Rattle.rx_syntax.specs.Shape.{Shape, Stands}
 use Rattle.rx_check.specs.Checked.{Checked}
 use Rattle.rx_ticket.specs.declared.tickets.AnyTicket.TheVariants.{Running, Held}

@@ -1,8 +1,7 @@
-use Rattle.std.proofs.Common.{◌≡◌, ℕ, suc, ◌+◌, [], ap, sym, ◌∙◌, subst, arith, Vec, Global}
-use Rattle.std.specs.Prelude.{Option, None, option_map, Result}
+use Rattle.std.proofs.Common.{◌≡◌, ℕ, suc, ◌+◌, [], ap, sym, ◌∙◌, subst, arith, Vec, Global, Option, None, option_map, Result}
 use Rattle.std.proofs.lemmas.Option.{slice_get_within}
 use Rattle.std.proofs.lemmas.Result.{err_from_is_err_and}
-use Rattle.rx_rules.specs.Code.{work}
+use Rattle.rx_rules.proofs.Common.{work}
 use Rattle.rx_syntax.specs.declared.nodes.NameId.{NameId}
 use Rattle.rx_check.specs.Rules.{Kind, Sight, assigned, inside, learned, sights}
 use Rattle.rx_check.specs.Inside.Walk.{Sofar, cap, known_with, noted, sights_run, rule_with, seen_all, seen_as, sofar_of, work_with, Knows}

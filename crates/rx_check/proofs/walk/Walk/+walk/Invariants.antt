@@ -1,5 +1,5 @@
 use Rattle.std.proofs.Common.{ℕ, ◌+◌, ◌-◌, ◌*◌, ◌≤◌, List}
-use Rattle.rx_rules.specs.Code.{Block}
+use Rattle.rx_rules.proofs.Common.{Block}
 use Rattle.rx_syntax.specs.Shape.{BlockStands}
 use Rattle.rx_check.specs.Inside.Walk.{Extends, Knows}
 use Rattle.rx_check.proofs.Going.{Going}

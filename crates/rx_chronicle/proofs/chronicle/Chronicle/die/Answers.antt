@@ -1,6 +1,6 @@
 use Rattle.std.proofs.Common.{sym, subst, ℕ}
 use Rattle.rx_rules.specs.declared.entries.Entry.TheVariants.{Death}
-use Rattle.rx_rules.specs.Entries.{strike}
+use Rattle.rx_rules.proofs.Common.{strike}
 use Rattle.rx_finish.specs.Callers.{MayStrike}
 use Rattle.rx_chronicle.specs.Requests.{tree_told}
 use Rattle.rx_chronicle.proofs.Deaths.{inside, may_strike, died}

@@ -1,9 +1,8 @@
 use Rattle.std.proofs.Common.{◌≡◌, ap, ◌∙◌, refl, arith, List, map, length, slice_index_or, Err}
 use Rattle.std.proofs.lemmas.Result.{err_from_is_err_and}
-use Rattle.rx_base.specs.declared.values.Fault.{Fault}
+use Rattle.rx_rules.proofs.Common.{Fault, thrown_of}
 use Rattle.rx_rules.specs.declared.entries.Act.TheVariants.{Release}
 use Rattle.rx_rules.specs.declared.entries.Entry.TheVariants.{Step}
-use Rattle.rx_rules.specs.Entries.{thrown_of}
 use Rattle.rx_history.specs.Logs.{Log}
 use Rattle.rx_finish.specs.declared.ledger.LedgerFault.{LedgerFault}
 use Rattle.rx_finish.specs.Calls.{ReleaseReply, IsHindered}

@@ -1,10 +1,8 @@
 use Rattle.std.proofs.Common.{◌≡◌, ap, ◌∙◌, ◌<◌, ◌+◌, sym, subst, refl, append-nil, ℕ, List, map, length, slice_index_or, Err}
 use Rattle.std.proofs.lemmas.Result.{err_from_is_err_and}
-use Rattle.rx_base.specs.declared.ids.ScopeId.{ScopeId}
-use Rattle.rx_base.specs.declared.values.Fault.{Fault}
+use Rattle.rx_rules.proofs.Common.{ScopeId, Fault, made_act}
 use Rattle.rx_rules.specs.declared.entries.Act.TheVariants.{Wait}
 use Rattle.rx_rules.specs.declared.entries.Entry.TheVariants.{Step}
-use Rattle.rx_rules.specs.Entries.{made_act}
 use Rattle.rx_sound.specs.Sound.{Each}
 use Rattle.rx_history.specs.Logs.{Log}
 use Rattle.rx_finish.specs.declared.ledger.LedgerFault.{LedgerFault}

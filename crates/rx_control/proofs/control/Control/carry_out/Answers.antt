@@ -1,10 +1,7 @@
 use Rattle.std.proofs.lemmas.Int.{ints, to_z-of_z}
 use mir.Val.{SFits}
-use Rattle.std.proofs.Common.{rules, w64, suc, ◌∷◌, ◌++◌, Some, None, refl, ap, sym, ◌∙◌, subst}
-use Rattle.std.specs.Prelude.{option_to_list}
-use Rattle.rx_base.specs.declared.values.Value.TheVariants.{Num as Number}
-use Rattle.rx_rules.specs.Code.{Then}
-use Rattle.rx_rules.specs.Terms.{Empty, Raise as RaiseTerm, Turns as TurnsTerm, Trying, bound, items, at, raise}
+use Rattle.std.proofs.Common.{rules, w64, suc, ◌∷◌, ◌++◌, Some, None, refl, ap, sym, ◌∙◌, subst, option_to_list}
+use Rattle.rx_rules.proofs.Common.{Number, Then, Empty, Raise as RaiseTerm, Turns as TurnsTerm, Trying, bound, items, at, raise}
 use Rattle.rx_control.specs.Levels.{More, Again, Tried, seq, wrap}
 use Rattle.rx_control.specs.declared.frame.Frame.TheVariants.{Seq, Try}
 use Rattle.rx_plan.specs.declared.plan.Plan.{Plan}

@@ -1,6 +1,5 @@
-use Rattle.std.proofs.Common.{◌≡◌, ℕ, List, Some, None, subst}
-use Rattle.std.specs.Prelude.{OnOk}
-use Rattle.rx_rules.specs.Terms.{Term, answered, answer_of, receives, vars_after, begins}
+use Rattle.std.proofs.Common.{◌≡◌, ℕ, List, Some, None, subst, OnOk}
+use Rattle.rx_rules.proofs.Common.{Term, answered, answer_of, receives, vars_after, begins}
 use Rattle.rx_syntax.specs.Shape.{Shape}
 use Rattle.rx_control.specs.Stands.{StandsFor, IsSame}
 use Rattle.rx_control.proofs.Bound.{answered-falls}

@@ -1,15 +1,11 @@
-use Rattle.std.proofs.Common.{◌≡◌, []}
-use Rattle.rx_base.specs.declared.ids.PlaceId.{PlaceId}
-use Rattle.std.specs.Prelude.{ℕ, List, OnOk}
+use Rattle.std.proofs.Common.{◌≡◌, [], ℕ, List, OnOk, subst}
+use Rattle.rx_rules.proofs.Common.{PlaceId, Term, does, granted, vars_told}
 use Rattle.rx_rules.specs.declared.entries.Act.TheVariants.{Census}
-use Rattle.rx_rules.specs.Terms.{Term, does, granted}
-use Rattle.rx_rules.specs.Plays.{vars_told}
 use Rattle.rx_syntax.specs.Shape.{Shape}
 use Rattle.rx_history.specs.declared.step.Next.TheVariants.{Book}
 use Rattle.rx_history.specs.declared.step.Want.TheVariants.{Census as CensusWanted}
 use Rattle.rx_control.specs.Stands.{StandsFor}
 use Rattle.rx_history.specs.Next.{next_of}
-use Rattle.std.proofs.Common.{subst}
 use Rattle.rx_control.proofs.Bound.{granted-rest}
 use Rattle.rx_control.proofs.control.Control.census_done.Goals as goal
 

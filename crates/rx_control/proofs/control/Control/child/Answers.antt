@@ -1,8 +1,6 @@
-use Rattle.std.proofs.Common.{◌≡◌, ℕ, List, ◌++◌, Some, ap, sym, ◌∙◌, subst}
-use Rattle.std.specs.Prelude.{option_to_list}
+use Rattle.std.proofs.Common.{◌≡◌, ℕ, List, ◌++◌, Some, ap, sym, ◌∙◌, subst, option_to_list}
 use Rattle.std.proofs.lemmas.Option.{none-some}
-use Rattle.rx_rules.specs.Code.{Stmt, Block}
-use Rattle.rx_rules.specs.Terms.{Term, stmt_child, child, begins, at}
+use Rattle.rx_rules.proofs.Common.{Stmt, Block, Term, stmt_child, child, begins, at}
 use Rattle.rx_syntax.specs.Shape.{Shape}
 use Rattle.rx_control.specs.declared.frame.Frame.TheVariants.{Seq}
 use Rattle.rx_control.specs.declared.control.Control.{Control}

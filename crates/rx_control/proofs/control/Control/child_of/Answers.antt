@@ -1,6 +1,5 @@
 use Rattle.std.proofs.Common.{◌≡◌, ◌∙◌}
-use Rattle.rx_rules.specs.Code.{Stmt, Block}
-use Rattle.rx_rules.specs.Terms.{stmt_child}
+use Rattle.rx_rules.proofs.Common.{Stmt, Block, stmt_child}
 use Rattle.rx_syntax.specs.Shape.{StmtIs}
 use Rattle.rx_control.specs.declared.control.Control.{Control}
 use Rattle.rx_control.specs.Stands.{StandsFor}

@@ -1,8 +1,6 @@
-use Rattle.std.proofs.Common.{◌≡◌, suc, [], ◌∷◌, ◌++◌, None, ap, sym, ◌∙◌}
-use Rattle.std.specs.Prelude.{option_to_list}
+use Rattle.std.proofs.Common.{◌≡◌, suc, [], ◌∷◌, ◌++◌, None, ap, sym, ◌∙◌, option_to_list}
 use Rattle.rx_rules.specs.declared.entries.Act.TheVariants.{Census}
-use Rattle.rx_rules.specs.Terms.{Counts, granted, at}
-use Rattle.rx_rules.specs.Plays.{vars_told}
+use Rattle.rx_rules.proofs.Common.{Counts, granted, at, vars_told}
 use Rattle.rx_control.specs.Levels.{More, term_of}
 use Rattle.rx_control.specs.declared.frame.Frame.TheVariants.{Seq}
 use Rattle.rx_control.specs.declared.control.Control.{Control}

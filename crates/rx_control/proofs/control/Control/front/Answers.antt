@@ -1,5 +1,5 @@
 use Rattle.std.proofs.Common.{◌≡◌, ℕ, List, [], ◌∷◌, ◌++◌, Option, None, ap, ◌∙◌}
-use Rattle.rx_rules.specs.Terms.{Term, begins}
+use Rattle.rx_rules.proofs.Common.{Term, begins}
 use Rattle.rx_syntax.specs.Shape.{Shape}
 use Rattle.rx_syntax.specs.declared.nodes.BlockId.{BlockId}
 use Rattle.rx_control.specs.declared.frame.Frame.{Frame}

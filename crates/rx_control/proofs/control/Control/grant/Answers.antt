@@ -1,6 +1,5 @@
-use Rattle.std.proofs.Common.{rules, ◌≡◌, suc, List, ◌∷◌, ◌++◌, length, Some, None, refl, ap, sym, ◌∙◌, subst}
-use Rattle.std.specs.Prelude.{option_to_list}
-use Rattle.rx_rules.specs.Terms.{Term, granted}
+use Rattle.std.proofs.Common.{rules, ◌≡◌, suc, List, ◌∷◌, ◌++◌, length, Some, None, refl, ap, sym, ◌∙◌, subst, option_to_list}
+use Rattle.rx_rules.proofs.Common.{Term, granted}
 use Rattle.rx_control.specs.Levels.{More, Waiting, seq, wrap, term_of}
 use Rattle.rx_control.specs.declared.frame.Frame.{Frame}
 use Rattle.rx_control.specs.declared.frame.Frame.TheVariants.{Seq, Turns, Try, Body, Held}

@@ -1,6 +1,5 @@
 use Rattle.std.proofs.Common.{◌≡◌, ℕ, List, [], arith, sym, ◌∙◌, subst}
-use Rattle.rx_rules.specs.Code.{Block}
-use Rattle.rx_rules.specs.Terms.{no_vars, items, Empty}
+use Rattle.rx_rules.proofs.Common.{Block, no_vars, items, Empty}
 use Rattle.rx_syntax.specs.Shape.{Shape, BlockStands, Stands}
 use Rattle.rx_syntax.specs.declared.nodes.BlockId.{BlockId}
 use Rattle.rx_control.specs.declared.control.Control.{Control}

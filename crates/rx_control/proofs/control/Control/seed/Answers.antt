@@ -1,7 +1,6 @@
-use Rattle.std.proofs.Common.{◌≡◌, ◌++◌, ap, sym, ◌∙◌, subst}
-use Rattle.std.specs.Prelude.{option_to_list}
+use Rattle.std.proofs.Common.{◌≡◌, ◌++◌, ap, sym, ◌∙◌, subst, option_to_list}
 use Rattle.std.proofs.lemmas.Option.{none-some, same_Some}
-use Rattle.rx_rules.specs.Terms.{Term, stmt_child, child, at}
+use Rattle.rx_rules.proofs.Common.{Term, stmt_child, child, at}
 use Rattle.rx_syntax.specs.Shape.{Shape}
 use Rattle.rx_control.specs.Seeds.{IsSeedOf}
 use Rattle.rx_control.specs.Stands.{StandsFor, path_of}

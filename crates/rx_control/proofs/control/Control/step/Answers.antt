@@ -1,7 +1,6 @@
-use Rattle.std.proofs.Common.{suc, ◌∷◌, ◌++◌, ap, ◌∙◌}
-use Rattle.std.specs.Prelude.{List, option_to_list}
+use Rattle.std.proofs.Common.{suc, ◌∷◌, ◌++◌, ap, ◌∙◌, List, option_to_list}
 use Rattle.rx_base.proofs.Results.{on-ok-then}
-use Rattle.rx_rules.specs.Terms.{Term, Releases, stmt_does, at, does}
+use Rattle.rx_rules.proofs.Common.{Term, Releases, stmt_does, at, does}
 use Rattle.rx_control.specs.declared.frame.Frame.{Frame}
 use Rattle.rx_control.specs.Levels.{More, seq}
 use Rattle.rx_control.specs.declared.frame.Frame.TheVariants.{Seq, Turns, Try, Body, Held}

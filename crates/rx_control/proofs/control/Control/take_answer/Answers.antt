@@ -1,10 +1,6 @@
-use Rattle.std.proofs.Common.{◌≡◌, suc, ◌∷◌, ◌++◌, Option, Some, None, refl, ap, sym, ◌∙◌, subst}
-use Rattle.std.specs.Prelude.{Result, Ok, Err, option_to_list}
+use Rattle.std.proofs.Common.{◌≡◌, suc, ◌∷◌, ◌++◌, Option, Some, None, refl, ap, sym, ◌∙◌, subst, Result, Ok, Err, option_to_list}
 use Rattle.std.proofs.lemmas.Option.{none-some}
-use Rattle.rx_base.specs.declared.values.Fault.{Fault}
-use Rattle.rx_base.specs.declared.values.Value.{Value}
-use Rattle.rx_rules.specs.Code.{Then}
-use Rattle.rx_rules.specs.Terms.{Fails, answered, answer_of, receives, vars_after}
+use Rattle.rx_rules.proofs.Common.{Fault, Value, Then, Fails, answered, answer_of, receives, vars_after}
 use Rattle.rx_control.specs.Levels.{More, term_of}
 use Rattle.rx_control.specs.declared.frame.Frame.TheVariants.{Seq}
 use Rattle.rx_control.specs.declared.control.Control.{Control}

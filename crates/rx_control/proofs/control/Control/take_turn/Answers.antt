@@ -1,5 +1,5 @@
 use Rattle.std.proofs.Common.{rules, ◌≡◌, suc, ◌+◌, ◌<◌, ◌≤◌, List, ◌∷◌, None, refl, ap, sym, ◌∙◌, subst, arith, add-one}
-use Rattle.rx_rules.specs.Terms.{Turns as TurnsTerm, items, at}
+use Rattle.rx_rules.proofs.Common.{Turns as TurnsTerm, items, at}
 use Rattle.rx_control.specs.Levels.{More, Again, seq, wrap}
 use Rattle.rx_control.specs.declared.frame.Frame.{Frame}
 use Rattle.rx_control.specs.declared.frame.Frame.TheVariants.{Turns}

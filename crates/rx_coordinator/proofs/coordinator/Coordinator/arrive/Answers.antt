@@ -1,5 +1,5 @@
 use Rattle.std.proofs.Common.{arith, sym, ◌∙◌}
-use Rattle.rx_rules.specs.Fold.{tree_of}
+use Rattle.rx_rules.proofs.Common.{tree_of}
 use Rattle.rx_coordinator.specs.declared.requests.Request.TheVariants.{Arrive}
 use Rattle.rx_coordinator.proofs.Allowing.{may_arrive, used_up}
 use Rattle.rx_coordinator.proofs.Acting.{away_seat}

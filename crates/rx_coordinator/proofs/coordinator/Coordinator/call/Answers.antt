@@ -1,11 +1,8 @@
 use Rattle.std.proofs.Common.{ℕ, ◌≡◌, ◌-◌, ◌==◌, Bool, true, false, cond, [], arith, refl, sym, ◌∙◌, ap, subst, Some, None, Err, Option, inr}
 use Rattle.std.proofs.lemmas.Bool.{eq-eqb, ne_eqb, true≢false}
-use Rattle.rx_base.specs.declared.ids.TaskId.{TaskId}
-use Rattle.rx_base.specs.declared.ids.PlaceId.{PlaceId}
+use Rattle.rx_rules.proofs.Common.{TaskId, PlaceId, tree_of, place_number, made_act}
 use Rattle.rx_rules.specs.declared.entries.Entry.TheVariants.{Step}
 use Rattle.rx_rules.specs.declared.entries.Act.TheVariants.{At as CallAct}
-use Rattle.rx_rules.specs.Fold.{tree_of}
-use Rattle.rx_rules.specs.Entries.{place_number, made_act}
 use Rattle.rx_finish.specs.Calls.{CallReply}
 use Rattle.rx_finish.specs.declared.ledger.LedgerFault.{LedgerFault}
 use Rattle.rx_counts.specs.Stands.{StandsFor}

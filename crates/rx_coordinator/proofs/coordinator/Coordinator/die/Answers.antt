@@ -1,8 +1,7 @@
 use Rattle.std.proofs.Common.{ℕ, ◌-◌, length, arith, refl, sym, ◌∙◌, ap, subst}
 use Rattle.std.proofs.lemmas.Bool.{true≢false}
 use Rattle.rx_rules.specs.declared.entries.Entry.TheVariants.{Death as DeathEntry}
-use Rattle.rx_rules.specs.Fold.{tree_of}
-use Rattle.rx_rules.specs.Entries.{strike}
+use Rattle.rx_rules.proofs.Common.{tree_of, strike}
 use Rattle.rx_counts.specs.Stands.{StandsFor}
 use Rattle.rx_coordinator.specs.declared.requests.Request.TheVariants.{Death}
 use Rattle.rx_coordinator.proofs.Asking.{stands_after}

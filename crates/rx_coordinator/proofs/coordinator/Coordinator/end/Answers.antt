@@ -1,8 +1,7 @@
 use Rattle.std.proofs.Common.{◌+◌, ◌-◌, [], arith, refl, sym, ◌∙◌, subst, None, Err}
 use Rattle.rx_rules.specs.declared.entries.Entry.TheVariants.{Step}
 use Rattle.rx_rules.specs.declared.entries.Act.TheVariants.{End as EndAct}
-use Rattle.rx_rules.specs.Fold.{tree_of}
-use Rattle.rx_rules.specs.Entries.{made_act}
+use Rattle.rx_rules.proofs.Common.{tree_of, made_act}
 use Rattle.rx_finish.specs.Calls.{EndReply}
 use Rattle.rx_finish.specs.declared.ledger.LedgerFault.{LedgerFault}
 use Rattle.rx_finish.specs.Callers.{HasNumbers}

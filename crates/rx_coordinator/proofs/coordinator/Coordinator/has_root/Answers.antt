@@ -1,5 +1,5 @@
 use Rattle.std.proofs.Common.{◌-◌, sym, ◌∙◌, ap, Option}
-use Rattle.rx_rules.specs.Fold.{tree_of}
+use Rattle.rx_rules.proofs.Common.{tree_of}
 use Rattle.rx_coordinator.proofs.Acting.{root_of}
 use Rattle.rx_coordinator.proofs.coordinator.Coordinator.has_root.Goals as goal
 use Rattle.std.specs.Option.{is_some}

@@ -1,10 +1,8 @@
 use Rattle.std.proofs.Common.{◌-◌, sym, ◌∙◌, ap}
-use Rattle.rx_rules.specs.Fold.{tree_of}
-use Rattle.rx_rules.specs.Tree.{scope_of}
+use Rattle.rx_rules.proofs.Common.{tree_of, scope_of, is_finish}
 use Rattle.rx_coordinator.proofs.Acting.{finish_told, none_told}
 use Rattle.rx_coordinator.proofs.coordinator.Coordinator.is_finish.Goals as goal
 use Rattle.rx_rules.specs.declared.tasks.Kind.{Kind}
-use Rattle.rx_rules.specs.Tree.{is_finish}
 
 pub returns-in-Finish : goal.returns-in-Finish
 returns-in-Finish c = λ p es st.

@@ -1,8 +1,6 @@
 use Rattle.std.proofs.Common.{ℕ, suc, ◌≡◌, ◌-◌, ◌≤◌, arith, refl, sym, ◌∙◌, subst}
-use Rattle.rx_base.specs.declared.ids.PlaceId.{PlaceId}
+use Rattle.rx_rules.proofs.Common.{PlaceId, tree_of, Allowed}
 use Rattle.rx_rules.specs.declared.entries.Entry.TheVariants.{Join as JoinEntry}
-use Rattle.rx_rules.specs.Fold.{tree_of}
-use Rattle.rx_rules.specs.Entries.{Allowed}
 use Rattle.rx_counts.specs.Stands.{StandsFor}
 use Rattle.rx_coordinator.specs.declared.requests.Request.TheVariants.{Join}
 use Rattle.rx_coordinator.proofs.Asking.{stands_after}

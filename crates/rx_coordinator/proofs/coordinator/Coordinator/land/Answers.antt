@@ -1,9 +1,7 @@
 use Rattle.std.proofs.Common.{◌-◌, [], refl, sym, ◌∙◌, ap, subst, Some, Err}
-use Rattle.rx_base.specs.declared.ids.PlaceId.{PlaceId}
+use Rattle.rx_rules.proofs.Common.{PlaceId, tree_of, made_act}
 use Rattle.rx_rules.specs.declared.entries.Entry.TheVariants.{Step}
 use Rattle.rx_rules.specs.declared.entries.Act.TheVariants.{Arrive as ArriveAct}
-use Rattle.rx_rules.specs.Fold.{tree_of}
-use Rattle.rx_rules.specs.Entries.{made_act}
 use Rattle.rx_finish.specs.Calls.{landing, ArriveReply}
 use Rattle.rx_finish.specs.declared.ledger.LedgerFault.{LedgerFault}
 use Rattle.rx_counts.specs.Stands.{StandsFor}

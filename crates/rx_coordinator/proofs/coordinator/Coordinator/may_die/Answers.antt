@@ -1,8 +1,7 @@
 use Rattle.std.proofs.Common.{ℕ, ◌≡◌, ◌-◌, false, not, refl, sym, ◌∙◌, ap, Some, None, Option}
 use Rattle.std.specs.Option.{is_some}
 use Rattle.std.proofs.lemmas.Bool.{true≢false, not-true}
-use Rattle.rx_rules.specs.Fold.{tree_of}
-use Rattle.rx_rules.specs.Tree.{death_of}
+use Rattle.rx_rules.proofs.Common.{tree_of, death_of}
 use Rattle.rx_coordinator.proofs.coordinator.Coordinator.may_die.Goals as goal
 
 none_of : {X : Type 0} (o : Option X) → is_some o ≡ false → o ≡ None

@@ -1,5 +1,5 @@
 use Rattle.std.proofs.Common.{◌-◌, ◌==◌, false, cond, arith, refl, Some, Option, ap, ◌∙◌, sym}
-use Rattle.rx_base.specs.declared.ids.TaskId.{TaskId}
+use Rattle.rx_rules.proofs.Common.{TaskId}
 use Rattle.rx_rules.specs.declared.tasks.Where.TheVariants.{At}
 use Rattle.rx_coordinator.specs.declared.seats.Seat.{Seat}
 use Rattle.rx_coordinator.proofs.Asking.{main_told}

@@ -1,9 +1,8 @@
 use Rattle.std.proofs.Common.{◌-◌, [], arith, refl, sym, ◌∙◌, subst, Err, inr}
 use Rattle.rx_rules.specs.declared.entries.Entry.TheVariants.{Step}
 use Rattle.rx_rules.specs.declared.entries.Act.TheVariants.{Open as OpenAct}
-use Rattle.rx_rules.specs.Fold.{tree_of}
+use Rattle.rx_rules.proofs.Common.{tree_of, made_act}
 use Rattle.rx_coordinator.specs.declared.requests.Request.TheVariants.{Open}
-use Rattle.rx_rules.specs.Entries.{made_act}
 use Rattle.rx_finish.specs.Calls.{OpenReply}
 use Rattle.rx_finish.specs.declared.ledger.LedgerFault.{LedgerFault}
 use Rattle.rx_counts.specs.Stands.{StandsFor}

@@ -1,6 +1,5 @@
 use Rattle.std.proofs.Common.{◌-◌, sym, ◌∙◌, ap}
-use Rattle.rx_rules.specs.Fold.{tree_of}
-use Rattle.rx_rules.specs.Tree.{scope_of}
+use Rattle.rx_rules.proofs.Common.{tree_of, scope_of}
 use Rattle.rx_coordinator.proofs.Acting.{none_told, parent_told}
 use Rattle.rx_coordinator.proofs.coordinator.Coordinator.parent_of.Goals as goal
 use Rattle.rx_coordinator.specs.Inside.Rows.{parent_or_root}

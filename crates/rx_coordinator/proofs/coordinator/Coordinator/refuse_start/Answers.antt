@@ -1,6 +1,6 @@
 use Rattle.std.proofs.Common.{◌≡◌, length, arith, sym, ◌∙◌, inl}
 use Rattle.std.proofs.lemmas.Bool.{true≢false}
-use Rattle.rx_rules.specs.Fold.{tree_of}
+use Rattle.rx_rules.proofs.Common.{tree_of}
 use Rattle.rx_coordinator.proofs.Asking.{live_seat}
 use Rattle.rx_coordinator.proofs.Allowing.{may_spawn}
 use Rattle.rx_coordinator.proofs.Acting.{no_spawn}

@@ -1,11 +1,7 @@
 use Rattle.std.proofs.Common.{◌≡◌, ◌-◌, [], arith, refl, sym, ◌∙◌, ap, subst, Some, Err}
-use Rattle.rx_base.specs.declared.ids.ScopeId.{ScopeId}
-use Rattle.rx_base.specs.declared.ids.PlaceId.{PlaceId}
+use Rattle.rx_rules.proofs.Common.{ScopeId, PlaceId, tree_of, inner, made_act}
 use Rattle.rx_rules.specs.declared.entries.Entry.TheVariants.{Step}
 use Rattle.rx_rules.specs.declared.entries.Act.TheVariants.{Release as ReleaseAct}
-use Rattle.rx_rules.specs.Fold.{tree_of}
-use Rattle.rx_rules.specs.Tree.{inner}
-use Rattle.rx_rules.specs.Entries.{made_act}
 use Rattle.rx_finish.specs.Calls.{ReleaseReply}
 use Rattle.rx_finish.specs.declared.ledger.LedgerFault.{LedgerFault}
 use Rattle.rx_counts.specs.Stands.{StandsFor}

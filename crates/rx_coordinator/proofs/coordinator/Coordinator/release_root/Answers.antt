@@ -1,7 +1,7 @@
 use Rattle.std.proofs.Common.{◌-◌, arith, refl, sym, ◌∙◌, subst, Err}
 use Rattle.std.proofs.lemmas.Bool.{true≢false}
 use Rattle.rx_rules.specs.declared.entries.Entry.TheVariants.{Root as RootEntry}
-use Rattle.rx_rules.specs.Fold.{tree_of}
+use Rattle.rx_rules.proofs.Common.{tree_of}
 use Rattle.rx_finish.specs.Calls.{RootReply}
 use Rattle.rx_finish.specs.declared.ledger.LedgerFault.{LedgerFault}
 use Rattle.rx_counts.specs.Stands.{StandsFor}

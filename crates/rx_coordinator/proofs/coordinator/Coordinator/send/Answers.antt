@@ -1,8 +1,6 @@
 use Rattle.std.proofs.Common.{ℕ, List, ◌≡◌, [], ◌∷◌, ◌++◌, refl, arith, inl, inr, length-append}
-use Rattle.rx_base.specs.declared.ids.TaskId.{TaskId}
-use Rattle.rx_base.specs.declared.ids.PlaceId.{PlaceId}
+use Rattle.rx_rules.proofs.Common.{TaskId, PlaceId, Tree}
 use Rattle.rx_rules.specs.declared.entries.Entry.{Entry}
-use Rattle.rx_rules.specs.Tree.{Tree}
 use Rattle.rx_finish.specs.declared.ledger.Born.{Born}
 use Rattle.rx_coordinator.specs.declared.requests.Request.TheVariants.{Spawn, Send}
 use Rattle.rx_coordinator.specs.declared.requests.Answer.{Answer}

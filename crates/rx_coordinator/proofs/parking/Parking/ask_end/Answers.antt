@@ -1,7 +1,5 @@
 use Rattle.std.proofs.Common.{◌≡◌, [], ◌∷◌, ◌++◌, true, refl, sym, ap, subst, inr}
-use Rattle.rx_base.specs.declared.ids.ScopeId.{ScopeId}
-use Rattle.rx_rules.specs.Tree.{the_root, on_chain}
-use Rattle.rx_rules.specs.Fold.{tree_of}
+use Rattle.rx_rules.proofs.Common.{ScopeId, the_root, on_chain, tree_of}
 use Rattle.rx_coordinator.specs.declared.parking.Parking.{Parking}
 use Rattle.rx_coordinator.specs.Waiters.{waiter_at}
 use Rattle.rx_coordinator.specs.Parking.{Parks}

@@ -1,7 +1,6 @@
 use Rattle.std.proofs.Common.{refl, sym, ◌∙◌, subst, inr}
 use Rattle.std.proofs.lemmas.Bool.{true≢false}
-use Rattle.rx_rules.specs.Tree.{the_root}
-use Rattle.rx_rules.specs.Fold.{tree_of}
+use Rattle.rx_rules.proofs.Common.{the_root, tree_of}
 use Rattle.rx_coordinator.specs.declared.requests.Request.TheVariants.{Root}
 use Rattle.rx_coordinator.specs.declared.waiters.Waiter.TheVariants.{Root as Host}
 use Rattle.rx_coordinator.specs.declared.parking.Parking.{Parking}

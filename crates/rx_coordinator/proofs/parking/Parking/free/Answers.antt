@@ -1,6 +1,5 @@
-use Rattle.std.proofs.Common.{refl, ℕ, ◌≡◌, ◌≤◌, ◌<◌, Some, None, sym, ◌∙◌, ap, subst, inl, inr, arith}
-use Rattle.std.specs.Prelude.{◌≢◌}
-use Rattle.rx_rules.specs.Fold.{tree_of}
+use Rattle.std.proofs.Common.{refl, ℕ, ◌≡◌, ◌≤◌, ◌<◌, Some, None, sym, ◌∙◌, ap, subst, inl, inr, arith, ◌≢◌}
+use Rattle.rx_rules.proofs.Common.{tree_of}
 use Rattle.rx_coordinator.specs.declared.waiters.Waiter.{Waiter}
 use Rattle.rx_coordinator.specs.Waiters.{waiter_at}
 use Rattle.rx_coordinator.specs.Parking.{HasToWait, PassedBy}

@@ -1,12 +1,9 @@
-use Rattle.std.proofs.Common.{◌≡◌, ◌<◌, true, false, Option, Some, None, refl, sym, ◌∙◌, ap, subst, arith}
+use Rattle.std.proofs.Common.{◌≡◌, ◌<◌, true, false, Option, Some, None, refl, sym, ◌∙◌, ap, subst, arith, not}
 use Rattle.std.proofs.lemmas.Bool.{true≢false}
-use Rattle.rx_base.specs.declared.ids.ScopeId.{ScopeId}
-use Rattle.rx_rules.specs.Tree.{the_root, on_chain}
-use Rattle.rx_rules.specs.Fold.{tree_of}
+use Rattle.rx_rules.proofs.Common.{ScopeId, the_root, on_chain, tree_of}
 use Rattle.rx_coordinator.specs.declared.waiters.Waiter.{Waiter}
 use Rattle.rx_coordinator.specs.Waiters.{waiter_at}
 use Rattle.std.specs.Option.{is_some}
-use Rattle.std.specs.Prelude.{not}
 use Rattle.rx_sound.proofs.Reached.{sound}
 use Rattle.rx_sound.proofs.Releasing.{on_meets}
 use Rattle.rx_sound.proofs.Freeing.{walk_goes_up}

@@ -1,7 +1,6 @@
-use Rattle.std.specs.Prelude.{◌≡◌, ℕ, true, List}
+use Rattle.std.proofs.Common.{◌≡◌, ℕ, true, List}
 use Rattle.rx_rules.specs.declared.entries.Entry.{Entry}
-use Rattle.rx_rules.specs.Tree.{the_root, on_chain}
-use Rattle.rx_rules.specs.Fold.{tree_of}
+use Rattle.rx_rules.proofs.Common.{the_root, on_chain, tree_of}
 use Rattle.rx_coordinator.specs.Stands.{Stands}
 use Rattle.rx_coordinator.specs.Inside.Walks.{AllAbove}
 use Rattle.rx_coordinator.proofs.parking.Parking.nearest.Given as goal

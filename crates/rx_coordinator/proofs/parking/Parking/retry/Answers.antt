@@ -1,11 +1,9 @@
-use Rattle.rx_rules.specs.Fold.{tree_of}
-use Rattle.std.proofs.Common.{ℕ, ◌≡◌, None, refl, sym, ◌∙◌, ap, subst, inl, inr}
-use Rattle.rx_base.specs.declared.ids.ScopeId.{ScopeId}
+use Rattle.rx_rules.proofs.Common.{tree_of, ScopeId}
+use Rattle.std.proofs.Common.{ℕ, ◌≡◌, None, refl, sym, ◌∙◌, ap, subst, inl, inr, cond, ◌==◌}
 use Rattle.rx_coordinator.specs.declared.parking.Parking.{Parking}
 use Rattle.rx_coordinator.specs.Stands.{Stands, Asked}
 use Rattle.rx_coordinator.specs.Waiters.{waiter_at, IsDue}
 use Rattle.rx_coordinator.specs.Parking.{Parks}
-use Rattle.std.specs.Prelude.{cond, ◌==◌}
 use Rattle.rx_coordinator.specs.declared.parking.Retried.{Retried}
 use Rattle.rx_coordinator.specs.declared.parking.Retried.TheVariants.{Short, Passed}
 use Rattle.rx_coordinator.specs.declared.waiters.Waiters.{Waiters}

@@ -1,4 +1,4 @@
-use Rattle.rx_rules.specs.Fold.{tree_of}
+use Rattle.rx_rules.proofs.Common.{tree_of}
 use Rattle.rx_coordinator.proofs.Waiting.{nearest_due}
 use Rattle.rx_coordinator.proofs.parking.Parking.wake.Goals as goal
 

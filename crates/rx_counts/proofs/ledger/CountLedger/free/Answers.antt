@@ -1,5 +1,5 @@
 use Rattle.std.proofs.Common.{refl}
-use Rattle.rx_rules.specs.Tree.{Tree}
+use Rattle.rx_rules.proofs.Common.{Tree}
 use Rattle.rx_counts.specs.declared.ledger.CountLedger.{CountLedger}
 use Rattle.rx_counts.proofs.Totalling.{are, one_freed}
 use Rattle.rx_counts.proofs.Asking.{room_kept}

@@ -1,6 +1,5 @@
 use Rattle.std.proofs.Common.{◌<◌, ◌^◌, refl, sym, ap, subst, ◌∙◌, rules}
-use Rattle.rx_rules.specs.Tree.{Tree}
-use Rattle.rx_rules.specs.Entries.{strike}
+use Rattle.rx_rules.proofs.Common.{Tree, strike}
 use Rattle.rx_counts.specs.Keeping.{stands_home}
 use Rattle.rx_counts.specs.declared.dying.Toll.{Toll}
 use Rattle.rx_counts.specs.Inside.Totalling.{dies, CanDie}

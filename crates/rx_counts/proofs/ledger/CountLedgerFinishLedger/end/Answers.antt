@@ -1,8 +1,7 @@
-use Rattle.std.specs.Prelude.{ℕ, ◌<◌, Bool, cond, length, Err}
-use Rattle.std.proofs.Common.{◌∙◌, sym, ap, subst, refl}
+use Rattle.std.proofs.Common.{ℕ, ◌<◌, Bool, cond, length, Err, ◌∙◌, sym, ap, subst, refl}
 use Rattle.std.proofs.lemmas.Bool.{true≢false}
 use Rattle.rx_sound.proofs.Reached.{sound}
-use Rattle.rx_rules.specs.Tree.{Tree}
+use Rattle.rx_rules.proofs.Common.{Tree}
 use Rattle.rx_finish.specs.declared.ledger.LedgerFault.{LedgerFault}
 use Rattle.rx_finish.specs.Callers.{IsBare}
 use Rattle.rx_finish.specs.Calls.{EndReply}

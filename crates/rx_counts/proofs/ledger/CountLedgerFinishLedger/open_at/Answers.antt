@@ -1,9 +1,6 @@
-use Rattle.std.specs.Prelude.{Some, Err, not}
-use Rattle.std.proofs.Common.{◌∙◌, sym, subst, refl, ap, arith}
-use Rattle.rx_base.specs.declared.ids.PlaceId.{PlaceId}
-use Rattle.rx_base.specs.declared.ids.ScopeId.{ScopeId}
+use Rattle.std.proofs.Common.{Some, Err, not, ◌∙◌, sym, subst, refl, ap, arith}
+use Rattle.rx_rules.proofs.Common.{PlaceId, ScopeId, Tree}
 use Rattle.rx_sound.proofs.Reached.{sound}
-use Rattle.rx_rules.specs.Tree.{Tree}
 use Rattle.rx_rules.specs.declared.tasks.Where.{Where}
 use Rattle.rx_finish.specs.declared.ledger.LedgerFault.{LedgerFault}
 use Rattle.rx_finish.specs.declared.ledger.LedgerFault.TheVariants.{NoMemory}

@@ -1,5 +1,4 @@
-use Rattle.std.specs.Prelude.{Err}
-use Rattle.std.proofs.Common.{◌∙◌, sym, subst, refl, arith}
+use Rattle.std.proofs.Common.{Err, ◌∙◌, sym, subst, refl, arith}
 use Rattle.rx_finish.specs.declared.ledger.LedgerFault.{LedgerFault}
 use Rattle.rx_finish.specs.declared.ledger.LedgerFault.TheVariants.{NoMemory}
 use Rattle.rx_finish.specs.Callers.{IsMoving}

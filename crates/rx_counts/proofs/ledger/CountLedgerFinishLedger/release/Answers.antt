@@ -1,6 +1,5 @@
-use Rattle.std.specs.Prelude.{Err}
-use Rattle.std.proofs.Common.{◌∙◌, sym, subst}
-use Rattle.rx_rules.specs.Tree.{Tree}
+use Rattle.std.proofs.Common.{Err, ◌∙◌, sym, subst}
+use Rattle.rx_rules.proofs.Common.{Tree}
 use Rattle.rx_finish.specs.declared.ledger.LedgerFault.{LedgerFault}
 use Rattle.rx_finish.specs.Callers.{WaitsInside}
 use Rattle.rx_finish.specs.Calls.{ReleaseReply}

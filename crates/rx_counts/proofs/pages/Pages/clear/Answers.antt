@@ -1,5 +1,4 @@
-use Rattle.std.proofs.Common.{◌<◌, ◌≤◌, ◌/◌, ◌∙◌, List, length, Option, None, sym, ap, arith, rules}
-use Rattle.std.specs.Prelude.{slice_index_or, slice_set}
+use Rattle.std.proofs.Common.{◌<◌, ◌≤◌, ◌/◌, ◌∙◌, List, length, Option, None, sym, ap, arith, rules, slice_index_or, slice_set}
 use Rattle.std.specs.Global.{Vec, Box}
 use Rattle.rx_counts.specs.declared.record.Record.{Record}
 use Rattle.rx_counts.proofs.PageList.{page_read, slots_lent, filled_lent, slots_empty}

@@ -1,5 +1,4 @@
-use Rattle.std.proofs.Common.{◌≡◌, ◌<◌, ◌≤◌, ◌/◌, ◌%◌, ◌∙◌, List, [], length, Option, Some, None, sym, ap, subst, rules}
-use Rattle.std.specs.Prelude.{MatchOption, slice_index_or}
+use Rattle.std.proofs.Common.{◌≡◌, ◌<◌, ◌≤◌, ◌/◌, ◌%◌, ◌∙◌, List, [], length, Option, Some, None, sym, ap, subst, rules, MatchOption, slice_index_or}
 use Rattle.std.specs.Global.{Vec, Box}
 use Rattle.rx_counts.specs.declared.record.Record.{Record}
 use Rattle.rx_counts.specs.Stands.{record_at}

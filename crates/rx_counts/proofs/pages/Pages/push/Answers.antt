@@ -1,5 +1,4 @@
-use Rattle.std.proofs.Common.{◌/◌, ◌++◌, ◌∷◌, [], ◌∙◌, ℕ, List, Option, Some, sym, ap, subst}
-use Rattle.std.specs.Prelude.{slice_set}
+use Rattle.std.proofs.Common.{◌/◌, ◌++◌, ◌∷◌, [], ◌∙◌, ℕ, List, Option, Some, sym, ap, subst, slice_set}
 use Rattle.std.specs.Global.{Vec, Box}
 use Rattle.rx_counts.specs.declared.record.Record.{Record}
 use Rattle.rx_counts.specs.Inside.Paging.{lists, slots_of, Filled}

@@ -1,6 +1,5 @@
-use Rattle.std.proofs.Common.{◌≡◌, ◌∙◌, ap, ℕ, ◌≤◌, arith, refl}
-use Rattle.std.specs.Prelude.{◌||◌, ◌&&◌, ◌==◌, ltb}
-use Rattle.rx_base.specs.Sets.{has_bit}
+use Rattle.std.proofs.Common.{◌≡◌, ◌∙◌, ap, ℕ, ◌≤◌, arith, refl, ◌||◌, ◌&&◌, ◌==◌, ltb}
+use Rattle.rx_rules.proofs.Common.{has_bit}
 use Rattle.rx_counts.specs.Inside.Dying.{hits}
 use Rattle.rx_counts.proofs.Clearing.{struck_cells}
 use Rattle.rx_counts.proofs.record.Sums.strike.Goals as goal

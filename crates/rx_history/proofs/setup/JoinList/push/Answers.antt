@@ -1,5 +1,4 @@
-use Rattle.std.specs.Prelude.{ℕ}
-use Rattle.std.proofs.Common.{List, subst, sym}
+use Rattle.std.proofs.Common.{ℕ, List, subst, sym}
 use Rattle.rx_history.specs.JoinOrder.{NeverFalls, IsAtLeastLast}
 use Rattle.rx_history.proofs.Rising.{rising-push}
 use Rattle.rx_history.proofs.setup.JoinList.push.Goals as goal

@@ -1,5 +1,5 @@
 use Rattle.std.proofs.Common.{List, subst, sym}
-use Rattle.rx_base.specs.declared.ids.Kill.{Kill}
+use Rattle.rx_rules.proofs.Common.{Kill}
 use Rattle.rx_history.specs.KillOrder.{IsAscending, ComesLast}
 use Rattle.rx_history.proofs.Ascending.{ascending-push}
 use Rattle.rx_history.proofs.setup.KillList.push.Goals as goal

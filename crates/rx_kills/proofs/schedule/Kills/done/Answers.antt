@@ -1,7 +1,7 @@
 use Rattle.std.proofs.Common.{◌≡◌, ℕ, suc, ◌+◌, ◌<◌, drop, length, slice_index_or, ap, sym, ◌∙◌, subst, arith}
 use Rattle.std.proofs.lemmas.Option.{slice_get-get_or}
 use Rattle.rx_base.proofs.Elements.{drop-next}
-use Rattle.rx_rules.specs.Run.{events, rest_of}
+use Rattle.rx_rules.proofs.Common.{events, rest_of}
 use Rattle.rx_history.specs.JoinOrder.{NeverFalls}
 use Rattle.rx_kills.specs.Inside.Front.{starts_with_join}
 use Rattle.rx_kills.proofs.Left.{falls-left, join-inside, death-inside, join-first, death-first}

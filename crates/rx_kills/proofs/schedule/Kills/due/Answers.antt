@@ -1,5 +1,5 @@
 use Rattle.std.proofs.Common.{sym, subst}
-use Rattle.rx_rules.specs.Run.{NoneDue}
+use Rattle.rx_rules.proofs.Common.{NoneDue}
 use Rattle.rx_kills.proofs.schedule.Kills.due.Goals as goal
 
 pub returns-else-planned-len-clause-unreached : goal.returns-else-planned-len-clause-unreached

@@ -1,7 +1,7 @@
 use Rattle.std.proofs.Common.{◌+◌, drop, ap, sym, ◌∙◌, subst, arith}
 use Rattle.std.proofs.lemmas.List.{drop_all}
 use Rattle.rx_base.proofs.Elements.{drop-next}
-use Rattle.rx_rules.specs.Run.{events}
+use Rattle.rx_rules.proofs.Common.{events}
 use Rattle.rx_history.specs.JoinOrder.{NeverFalls}
 use Rattle.rx_kills.specs.Inside.Front.{starts_with_join}
 use Rattle.rx_kills.proofs.Left.{falls-left, join-inside, join-first, death-first, none-first, starts-so}

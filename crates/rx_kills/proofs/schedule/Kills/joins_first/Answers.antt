@@ -2,7 +2,7 @@ use Rattle.std.proofs.Common.{◌+◌, ◌∷◌, drop, ap, sym, ◌∙◌, subs
 use Rattle.std.proofs.lemmas.List.{drop_all}
 use Rattle.std.proofs.lemmas.Option.{slice_get-get_or}
 use Rattle.rx_base.proofs.Elements.{drop-next}
-use Rattle.rx_rules.specs.Run.{events}
+use Rattle.rx_rules.proofs.Common.{events}
 use Rattle.rx_history.specs.JoinOrder.{NeverFalls}
 use Rattle.rx_kills.specs.Inside.Front.{starts_with_join}
 use Rattle.rx_kills.proofs.Left.{falls-left, no-join, join-alone, join-or-death}

@@ -1,7 +1,7 @@
 use Rattle.std.proofs.Common.{◌++◌, ◌∙◌, ap, sym, subst, List}
 use Rattle.std.proofs.lemmas.List.{take-append-drop}
 use Rattle.rx_rules.specs.declared.entries.Entry.{Entry}
-use Rattle.rx_rules.specs.Fold.{tree_of}
+use Rattle.rx_rules.proofs.Common.{tree_of}
 use Rattle.rx_history.specs.Logs.{Log}
 use Rattle.rx_history.specs.Setups.{given}
 use Rattle.rx_chronicle.specs.Told.{left_to_join}

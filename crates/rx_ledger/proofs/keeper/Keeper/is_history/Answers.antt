@@ -1,7 +1,7 @@
 use Rattle.std.proofs.Common.{sym, subst, List}
 use Rattle.std.proofs.lemmas.List.{take-append-drop}
 use Rattle.rx_rules.specs.declared.entries.Entry.{Entry}
-use Rattle.rx_rules.specs.Run.{Folds}
+use Rattle.rx_rules.proofs.Common.{Folds}
 use Rattle.rx_history.specs.Setups.{given}
 use Rattle.rx_chronicle.specs.Told.{RootLast}
 use Rattle.rx_ledger.specs.Kept.{Kept, IsHistory}

@@ -1,5 +1,5 @@
 use Rattle.std.proofs.Common.{◌∷◌, ap, sym, ◌∙◌, refl}
-use Rattle.rx_base.specs.declared.ids.PlaceId.{PlaceId}
+use Rattle.rx_rules.proofs.Common.{PlaceId}
 use Rattle.rx_live.proofs.Opened.{born_first, first_left, when_put}
 use Rattle.rx_live.proofs.opening.Places.add.Goals as goal
 

@@ -1,6 +1,5 @@
-use Rattle.std.proofs.Common.{rules, ◌≡◌, w64, to_z, of_z}
-use Rattle.rx_rules.specs.Terms.{Prints}
-use Rattle.std.proofs.Common.{ap, sym, ◌∙◌}
+use Rattle.std.proofs.Common.{rules, ◌≡◌, w64, to_z, of_z, ap, sym, ◌∙◌}
+use Rattle.rx_rules.proofs.Common.{Prints}
 use Rattle.rx_machine.proofs.Requested.{told_open, told_call, told_spawn, told_wait, told_release, told_print, told_census, told_end, told_no_local, told_no_cell, on_ok, on_err, any_err}
 use Rattle.rx_history.specs.Logs.{Log}
 use Rattle.rx_machine.specs.declared.machine.Machine.{Machine}

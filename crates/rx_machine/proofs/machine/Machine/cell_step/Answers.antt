@@ -1,7 +1,6 @@
 use Rattle.std.proofs.Common.{List, ◌<◌, ◌^◌, ◌≡◌, ◌∙◌, rules, length, refl, ap, sym, subst, arith}
-use Rattle.rx_base.specs.declared.ids.PlaceId.{PlaceId}
+use Rattle.rx_rules.proofs.Common.{PlaceId, receives, answer_of, vars_after}
 use Rattle.rx_rules.specs.declared.events.PlaceEvent.{PlaceEvent}
-use Rattle.rx_rules.specs.Terms.{receives, answer_of, vars_after}
 use Rattle.rx_history.specs.Logs.{Log}
 use Rattle.rx_store.specs.Kept.{ends_closed}
 use Rattle.rx_store.specs.Asked.{MayAskStore}

@@ -1,10 +1,6 @@
 use Rattle.std.proofs.Common.{arith, ◌≡◌, ◌≤◌, ℕ, List, Some, refl, ap, ◌∙◌, sym, inl, inr}
 use Rattle.rx_rules.specs.declared.entries.Act.TheVariants.{Census}
-use Rattle.rx_rules.specs.Terms.{does, begins, Counts}
-use Rattle.rx_rules.specs.Tree.{Tree}
-use Rattle.rx_rules.specs.Entries.{AllowedAct}
-use Rattle.rx_rules.specs.Plays.{vars_told}
-use Rattle.rx_rules.specs.Picked.{tree_in}
+use Rattle.rx_rules.proofs.Common.{does, begins, Counts, Tree, AllowedAct, vars_told, tree_in}
 use Rattle.rx_history.specs.Logs.{Log}
 use Rattle.rx_history.specs.Next.{next_of}
 use Rattle.rx_control.specs.declared.control.Control.{Control}

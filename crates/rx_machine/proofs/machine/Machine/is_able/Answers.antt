@@ -1,6 +1,5 @@
 use Rattle.std.proofs.Common.{ap, ◌∙◌, sym, not}
-use Rattle.rx_rules.specs.Tree.{Tree}
-use Rattle.rx_rules.specs.Picked.{tree_in}
+use Rattle.rx_rules.proofs.Common.{Tree, tree_in}
 use Rattle.rx_finish.specs.Callers.{MayAskRelease}
 use Rattle.rx_finish.specs.Calls.{is_ready}
 use Rattle.rx_machine.specs.Picking.{slot_able}

@@ -1,6 +1,6 @@
 use Rattle.std.proofs.Common.{arith, rules, ◌<◌, ◌^◌, ℕ, List, length, refl, true, false, ap, ◌∙◌, sym, subst}
 use Rattle.rx_kills.specs.Least.{entry_of}
-use Rattle.rx_rules.specs.Picked.{tree_in}
+use Rattle.rx_rules.proofs.Common.{tree_in}
 use Rattle.rx_machine.specs.Picking.{IsReady}
 use Rattle.rx_machine.proofs.BeforeTurn.{falling, calm, can-turn, counted}
 use Rattle.rx_machine.proofs.Noting.{roomy-can}

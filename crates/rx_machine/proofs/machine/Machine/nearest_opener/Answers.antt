@@ -1,7 +1,5 @@
 use Rattle.std.proofs.Common.{arith, ◌≡◌, ◌<◌, true, false, length, Some, ap, ◌∙◌, sym}
-use Rattle.rx_base.specs.declared.ids.TaskId.{TaskId}
-use Rattle.rx_base.specs.declared.ids.ScopeId.{ScopeId}
-use Rattle.rx_rules.specs.Picked.{tree_in}
+use Rattle.rx_rules.proofs.Common.{TaskId, ScopeId, tree_in}
 use Rattle.rx_sound.specs.Enabling.{is_left}
 use Rattle.rx_machine.proofs.Walking.{step_at, left_seen, found_left, goes_on, none_above_root}
 use Rattle.rx_machine.proofs.machine.Machine.nearest_opener.Goals as goal

@@ -1,8 +1,5 @@
 use Rattle.std.proofs.Common.{◌≡◌, true}
-use Rattle.rx_rules.specs.Code.{Block}
-use Rattle.rx_rules.specs.Tree.{on_chain, the_root}
-use Rattle.rx_rules.specs.Run.{Given}
-use Rattle.rx_rules.specs.Picked.{Game, tree_in}
+use Rattle.rx_rules.proofs.Common.{Block, on_chain, the_root, Given, Game, tree_in}
 use Rattle.rx_syntax.specs.Shape.{Shape}
 use Rattle.rx_machine.specs.Holds.{CanTurn}
 use Rattle.rx_machine.proofs.Walking.{IsOnWay}

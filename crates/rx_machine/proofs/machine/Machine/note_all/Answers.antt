@@ -1,7 +1,5 @@
 use Rattle.std.proofs.Common.{rules, arith, ◌≡◌, ◌≤◌, ℕ, List, Bool, length, inl, inr, ap, ◌∙◌, sym, subst}
-use Rattle.rx_rules.specs.Code.{Block}
-use Rattle.rx_rules.specs.Run.{Given}
-use Rattle.rx_rules.specs.Picked.{Game, tree_in}
+use Rattle.rx_rules.proofs.Common.{Block, Given, Game, tree_in}
 use Rattle.rx_syntax.specs.Shape.{Shape}
 use Rattle.rx_rank.specs.Numbers.{Ascends, marked}
 use Rattle.rx_machine.specs.declared.machine.Machine.{Machine}

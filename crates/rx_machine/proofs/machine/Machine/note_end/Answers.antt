@@ -1,5 +1,5 @@
 use Rattle.std.proofs.Common.{ap, ◌∙◌, sym, subst}
-use Rattle.rx_rules.specs.Picked.{tree_in}
+use Rattle.rx_rules.proofs.Common.{tree_in}
 use Rattle.rx_rank.specs.Numbers.{marked}
 use Rattle.rx_machine.specs.declared.machine.Machine.{Machine}
 use Rattle.rx_machine.specs.Slots.{seat_at}

@@ -1,7 +1,5 @@
 use Rattle.std.proofs.Common.{◌≡◌, ◌∙◌, ℕ, [], length, replicate, refl, ap, sym, subst}
-use Rattle.rx_rules.specs.Code.{Block}
-use Rattle.rx_rules.specs.Fold.{opening}
-use Rattle.rx_rules.specs.Run.{Proper}
+use Rattle.rx_rules.proofs.Common.{Block, opening, Proper}
 use Rattle.rx_check.proofs.OneTree.{one-tree}
 use Rattle.rx_history.specs.Logs.{Log}
 use Rattle.rx_history.specs.Setups.{given}

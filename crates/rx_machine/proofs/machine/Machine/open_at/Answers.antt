@@ -1,9 +1,6 @@
-use Rattle.std.specs.Prelude.{IfSome}
-use Rattle.std.proofs.Common.{rules, ◌^◌, ◌≡◌, ◌++◌, [], ◌∷◌, ◌+◌, ◌<◌, ℕ, length, List, Some, true, slice_set, refl, ap, ◌∙◌, sym, subst, arith}
+use Rattle.std.proofs.Common.{IfSome, rules, ◌^◌, ◌≡◌, ◌++◌, [], ◌∷◌, ◌+◌, ◌<◌, ℕ, length, List, Some, true, slice_set, refl, ap, ◌∙◌, sym, subst, arith}
 use Rattle.std.proofs.lemmas.List.{length-append}
-use Rattle.rx_base.specs.declared.values.Fault.{Fault}
-use Rattle.rx_rules.specs.Terms.{granted, begins, child}
-use Rattle.rx_rules.specs.Picked.{tree_in}
+use Rattle.rx_rules.proofs.Common.{Fault, granted, begins, child, tree_in}
 use Rattle.rx_history.specs.Logs.{Log}
 use Rattle.rx_control.specs.Stands.{StandsFor}
 use Rattle.rx_machine.proofs.Asking.{memory-out}

@@ -1,6 +1,5 @@
 use Rattle.std.proofs.Common.{◌≡◌, ℕ, List, Some, refl, ap, ◌∙◌, sym, subst}
-use Rattle.rx_base.specs.declared.values.Fault.{Fault}
-use Rattle.rx_rules.specs.Terms.{granted, begins, Opens}
+use Rattle.rx_rules.proofs.Common.{Fault, granted, begins, Opens}
 use Rattle.rx_history.specs.Logs.{Log}
 use Rattle.rx_control.specs.Stands.{StandsFor}
 use Rattle.rx_machine.proofs.Asking.{may-move, memory-out}

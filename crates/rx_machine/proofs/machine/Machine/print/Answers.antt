@@ -1,8 +1,7 @@
 use Rattle.std.proofs.Common.{w64, ℤ, ◌≡◌, ℕ, List, Some, refl, ap, ◌∙◌, sym, subst}
 use Rattle.std.proofs.lemmas.Int.{to_z-of_z}
-use Rattle.rx_base.specs.declared.values.Fault.{Fault}
+use Rattle.rx_rules.proofs.Common.{Fault, granted, begins, Prints}
 use Rattle.rx_rules.specs.declared.entries.Act.TheVariants.{Print}
-use Rattle.rx_rules.specs.Terms.{granted, begins, Prints}
 use Rattle.rx_history.specs.Logs.{Log}
 use Rattle.rx_chronicle.specs.Requests.{Granted}
 use Rattle.rx_control.specs.Stands.{StandsFor}

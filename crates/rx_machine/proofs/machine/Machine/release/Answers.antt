@@ -1,6 +1,5 @@
 use Rattle.std.proofs.Common.{List, false, refl, ap, subst, inl, inr}
-use Rattle.rx_base.specs.declared.values.Fault.{Fault}
-use Rattle.rx_rules.specs.Terms.{granted}
+use Rattle.rx_rules.proofs.Common.{Fault, granted}
 use Rattle.rx_history.specs.Logs.{Log}
 use Rattle.rx_control.specs.Stands.{StandsFor}
 use Rattle.rx_machine.proofs.Released.{release-may, release-out, release-told, released}

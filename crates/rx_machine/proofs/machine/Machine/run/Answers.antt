@@ -1,5 +1,5 @@
 use Rattle.std.proofs.Common.{◌≡◌, ◌+◌, ◌≤◌, ℕ, Ok, ap, ◌∙◌, arith}
-use Rattle.rx_rules.specs.Picked.{used_after, start_game}
+use Rattle.rx_rules.proofs.Common.{used_after, start_game}
 use Rattle.rx_machine.proofs.Whole.{run-begins, run-goes, run-stops, run-ends, run-picked, picks-left}
 use Rattle.rx_machine.proofs.machine.Machine.run.Goals as goal
 

@@ -1,7 +1,5 @@
 use Rattle.std.proofs.Common.{◌≡◌, ◌+◌, ℕ}
-use Rattle.rx_rules.specs.Code.{Block}
-use Rattle.rx_rules.specs.Run.{Given}
-use Rattle.rx_rules.specs.Picked.{Game}
+use Rattle.rx_rules.proofs.Common.{Block, Given, Game}
 use Rattle.rx_machine.specs.Holds.{Holds}
 use Rattle.rx_machine.proofs.Whole.{RunTo}
 use Rattle.rx_machine.proofs.machine.Machine.run.Given as goal

@@ -1,7 +1,5 @@
 use Rattle.std.proofs.Common.{◌≤◌, ◌+◌, ℕ}
-use Rattle.rx_rules.specs.Code.{Block}
-use Rattle.rx_rules.specs.Run.{Given}
-use Rattle.rx_rules.specs.Picked.{Game, Player}
+use Rattle.rx_rules.proofs.Common.{Block, Given, Game, Player}
 use Rattle.rx_runs.specs.Steps.{steps}
 use Rattle.rx_machine.specs.Holds.{Acting}
 use Rattle.rx_machine.specs.Inside.Requests.{OnlyStores}

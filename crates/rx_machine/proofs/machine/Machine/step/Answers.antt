@@ -1,5 +1,5 @@
 use Rattle.std.proofs.Common.{refl, subst}
-use Rattle.rx_rules.specs.Terms.{Vars, does}
+use Rattle.rx_rules.proofs.Common.{Vars, does}
 use Rattle.rx_control.specs.Stands.{Leaves}
 use Rattle.rx_machine.proofs.Stepping.{told-by, stands-by, stepped-local}
 use Rattle.rx_machine.proofs.Halting.{stopped, stopped-told}

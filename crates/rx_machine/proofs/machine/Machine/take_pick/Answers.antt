@@ -1,5 +1,5 @@
 use Rattle.std.proofs.Common.{arith, ◌≡◌, List, Option, length, refl, ap, ◌∙◌}
-use Rattle.rx_rules.specs.Picked.{tree_in}
+use Rattle.rx_rules.proofs.Common.{tree_in}
 use Rattle.rx_history.specs.Logs.{Log}
 use Rattle.rx_machine.specs.declared.seat.Seat.{Seat}
 use Rattle.rx_machine.specs.Slots.{seat_at}

@@ -1,7 +1,6 @@
 use Rattle.std.proofs.Common.{◌≡◌, [], List, true, refl, ap, ◌∙◌, subst}
-use Rattle.rx_base.specs.declared.values.Fault.{Fault}
+use Rattle.rx_rules.proofs.Common.{Fault, Term, Empty, granted, replaced}
 use Rattle.rx_rules.specs.declared.entries.Act.TheVariants.{Wait}
-use Rattle.rx_rules.specs.Terms.{Term, Empty, granted, replaced}
 use Rattle.rx_history.specs.Logs.{Log}
 use Rattle.rx_history.specs.Next.{carried}
 use Rattle.rx_chronicle.specs.Requests.{Granted}

@@ -1,5 +1,4 @@
-use Rattle.std.proofs.Common.{arith, ◌≡◌, ◌/◌, ◌<◌, ◌≤◌, ℕ, List, length, ap, subst, ◌∙◌}
-use Rattle.std.specs.Prelude.{slice_index}
+use Rattle.std.proofs.Common.{arith, ◌≡◌, ◌/◌, ◌<◌, ◌≤◌, ℕ, List, length, ap, subst, ◌∙◌, slice_index}
 use Rattle.rx_rank.specs.Numbers.{Numbers, Ascends}
 use Rattle.rx_rank.specs.Counts.{numbers, leaves}
 use Rattle.rx_rank.proofs.Leaves.{numbers-ascend}

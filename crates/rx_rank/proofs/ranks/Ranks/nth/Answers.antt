@@ -1,5 +1,4 @@
-use Rattle.std.proofs.Common.{arith, ◌≡◌, ◌/◌, ◌<◌, ◌^◌, ℕ, List, Option, length, slice_get, ap, sym, subst, ◌∙◌}
-use Rattle.std.specs.Prelude.{slice_index}
+use Rattle.std.proofs.Common.{arith, ◌≡◌, ◌/◌, ◌<◌, ◌^◌, ℕ, List, Option, length, slice_get, ap, sym, subst, ◌∙◌, slice_index}
 use Rattle.rx_rank.specs.Numbers.{Numbers}
 use Rattle.rx_rank.specs.Counts.{IsTree}
 use Rattle.rx_rank.proofs.Keeping.{kept_numbers, kept_within, kept_room, kept_least}

@@ -1,5 +1,4 @@
-use Rattle.std.proofs.Common.{rules, arith, ◌≡◌, ℕ, List, Some, length, slice_get, ap, sym, subst, ◌∙◌}
-use Rattle.std.specs.Prelude.{eqb, refl}
+use Rattle.std.proofs.Common.{rules, arith, ◌≡◌, ℕ, List, Some, length, slice_get, ap, sym, subst, ◌∙◌, eqb, refl}
 use Rattle.std.specs.Option.{option_eq}
 use Rattle.std.proofs.lemmas.Bool.{true≢false, eq-eqb}
 use Rattle.rx_rank.specs.Numbers.{Numbers, removed}

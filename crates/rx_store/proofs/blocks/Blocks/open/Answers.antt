@@ -1,4 +1,4 @@
-use Rattle.rx_rules.specs.Store.{opening_state}
+use Rattle.rx_rules.proofs.Common.{opening_state}
 use Rattle.rx_store.proofs.Telling.{stands_open}
 use Rattle.rx_store.proofs.blocks.Blocks.open.Goals as goal
 

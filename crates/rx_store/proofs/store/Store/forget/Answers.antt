@@ -1,5 +1,4 @@
-use Rattle.std.proofs.Common.{sym, subst}
-use Rattle.std.specs.Prelude.{Some}
+use Rattle.std.proofs.Common.{sym, subst, Some}
 use Rattle.rx_store.specs.Answers.{ForgetAnswers}
 use Rattle.rx_store.proofs.Answering.{forgot, forgot_stale}
 use Rattle.rx_store.proofs.Steps.{seen, told_steady, told_tells}

@@ -1,6 +1,5 @@
-use Rattle.std.proofs.Common.{◌<◌, ◌^◌, length, arith, sym, subst, ap}
+use Rattle.std.proofs.Common.{◌<◌, ◌^◌, length, arith, sym, subst, ap, Some}
 use Rattle.rx_store.specs.Kept.{Kept}
-use Rattle.std.specs.Prelude.{Some}
 use Rattle.rx_store.specs.Answers.{MakeAnswers}
 use Rattle.rx_store.proofs.Answering.{made, full}
 use Rattle.rx_store.proofs.Steps.{few_made, seen, told_steady, told_tells}

@@ -1,5 +1,4 @@
-use Rattle.std.proofs.Common.{◌≡◌, sym, subst}
-use Rattle.std.specs.Prelude.{Some, Err}
+use Rattle.std.proofs.Common.{◌≡◌, sym, subst, Some, Err}
 use Rattle.std.proofs.lemmas.Int.{to_z-of_z}
 use mir.Val.{of_z, to_z}
 use mir.Syntax.{w64}

@@ -1,6 +1,5 @@
-use Rattle.std.proofs.Common.{rules, ◌≡◌, ◌<◌, Option, Some, ℕ, List, length, map, ap, sym, ◌∙◌, subst, arith, get_or, Vec, Global}
+use Rattle.std.proofs.Common.{rules, ◌≡◌, ◌<◌, Option, Some, ℕ, List, length, map, ap, sym, ◌∙◌, subst, arith, get_or, Vec, Global, IfSome, slice_get, option_map}
 use Rattle.std.proofs.lemmas.List.{length-map}
-use Rattle.std.specs.Prelude.{IfSome, slice_get, option_map}
 use Rattle.std.proofs.lemmas.Option.{slice_get-map, slice_get-get_or}
 use Rattle.rx_syntax.specs.declared.nodes.StmtId.{StmtId}
 use Rattle.rx_syntax.specs.Shape.{Shape}

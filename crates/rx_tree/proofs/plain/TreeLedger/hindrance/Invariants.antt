@@ -1,6 +1,5 @@
-use Rattle.std.proofs.Common.{◌≡◌, drop, ◌&&◌, find}
-use Rattle.std.specs.Prelude.{is_none}
-use Rattle.rx_rules.specs.Tree.{is_under}
+use Rattle.std.proofs.Common.{◌≡◌, drop, ◌&&◌, find, is_none}
+use Rattle.rx_rules.proofs.Common.{is_under}
 use Rattle.rx_tree.specs.Kept.{kept}
 use Rattle.rx_tree.proofs.plain.TreeLedger.hindrance.Given as goal
 

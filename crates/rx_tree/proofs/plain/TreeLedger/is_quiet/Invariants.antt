@@ -1,7 +1,6 @@
-use Rattle.std.proofs.Common.{◌≡◌, drop, ◌&&◌}
-use Rattle.std.specs.Prelude.{is_none}
+use Rattle.std.proofs.Common.{◌≡◌, drop, ◌&&◌, is_none}
 use Rattle.std.specs.List.{list_any}
-use Rattle.rx_rules.specs.Tree.{is_under}
+use Rattle.rx_rules.proofs.Common.{is_under}
 use Rattle.rx_tree.specs.Kept.{kept}
 use Rattle.rx_tree.proofs.plain.TreeLedger.is_quiet.Given as goal
 

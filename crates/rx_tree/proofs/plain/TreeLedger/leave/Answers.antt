@@ -1,12 +1,8 @@
-use Rattle.std.specs.Prelude.{◌&&◌, is_none, is_some, refl, ◌≡◌, List, ◌++◌, min, length, sum_by, filter, not, Some}
+use Rattle.std.proofs.Common.{◌&&◌, is_none, is_some, refl, ◌≡◌, List, ◌++◌, min, length, sum_by, filter, not, Some, sym, ◌∙◌, rules, ap}
 use Rattle.std.specs.List.{list_any}
-use Rattle.std.proofs.Common.{sym, ◌∙◌, rules, ap}
-use Rattle.rx_base.specs.declared.ids.ScopeId.{ScopeId}
-use Rattle.rx_base.specs.Sets.{members, all_places}
+use Rattle.rx_rules.proofs.Common.{ScopeId, members, all_places, Tree, is_under, is_scope, chain_in, was_lost_at}
 use Rattle.rx_rules.specs.declared.tasks.Task.{Task}
 use Rattle.rx_rules.specs.declared.tasks.Scope.{Scope}
-use Rattle.rx_rules.specs.Tree.{Tree, is_under, is_scope, chain_in}
-use Rattle.rx_rules.specs.Entries.{was_lost_at}
 use Rattle.rx_tree.specs.Kept.{kept}
 use Rattle.rx_finish.specs.Calls.{landing}
 use Rattle.rx_tree.specs.Inside.Removal.{holds_scope}

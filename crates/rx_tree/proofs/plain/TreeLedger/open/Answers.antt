@@ -1,8 +1,5 @@
-use Rattle.std.specs.Prelude.{◌≡◌}
-use Rattle.std.proofs.Common.{rules}
-use Rattle.rx_rules.specs.Tree.{Tree}
-use Rattle.rx_rules.specs.Fold.{opening}
-use Rattle.rx_rules.specs.Reached.{opens}
+use Rattle.std.proofs.Common.{◌≡◌, rules}
+use Rattle.rx_rules.proofs.Common.{Tree, opening, opens}
 use Rattle.rx_tree.proofs.Leaves.{three}
 use Rattle.rx_tree.proofs.plain.TreeLedger.open.Goals as goal
 

@@ -1,7 +1,6 @@
-use Rattle.std.specs.Prelude.{◌≡◌, None, Some, slice_index_or}
+use Rattle.std.proofs.Common.{◌≡◌, None, Some, slice_index_or, sym, subst, rules}
 use Rattle.std.specs.List.{find}
-use Rattle.std.proofs.Common.{sym, subst, rules}
-use Rattle.rx_rules.specs.Tree.{is_scope}
+use Rattle.rx_rules.proofs.Common.{is_scope}
 use Rattle.rx_tree.specs.Inside.Positions.{IsFirst, PassesNone}
 use Rattle.rx_tree.proofs.Falling.{find_first, find_nothing}
 use Rattle.rx_tree.proofs.plain.TreeLedger.thrown_in.Goals as goal

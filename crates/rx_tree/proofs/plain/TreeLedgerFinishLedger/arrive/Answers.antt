@@ -1,13 +1,10 @@
-use Rattle.std.specs.Prelude.{◌≡◌, List}
+use Rattle.std.proofs.Common.{◌≡◌, List, ap, ◌∙◌, rules, sym, subst}
 use Rattle.std.specs.Vec.{with_items}
 use Rattle.std.proofs.lemmas.List.{with_items_is}
-use Rattle.std.proofs.Common.{ap, ◌∙◌, rules, sym, subst}
 use Rattle.rx_rules.specs.declared.tasks.Task.{Task}
-use Rattle.rx_rules.specs.Tree.{Tree, is_task}
-use Rattle.rx_rules.specs.Entries.{change_first}
+use Rattle.rx_rules.proofs.Common.{Tree, is_task, change_first, PlaceId}
 use Rattle.rx_finish.specs.Calls.{IsUnstruck}
 use Rattle.rx_tree.specs.Kept.{kept}
-use Rattle.rx_base.specs.declared.ids.PlaceId.{PlaceId}
 use Rattle.rx_rules.specs.declared.tasks.Where.TheVariants.{At}
 use Rattle.rx_finish.specs.Calls.{landing}
 use Rattle.rx_finish.proofs.Allowed.{arrive_allowed}

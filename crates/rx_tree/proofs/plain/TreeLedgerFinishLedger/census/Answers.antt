@@ -1,5 +1,4 @@
-use Rattle.std.specs.Prelude.{refl}
-use Rattle.std.proofs.Common.{sym, ◌∙◌}
+use Rattle.std.proofs.Common.{refl, sym, ◌∙◌}
 use Rattle.rx_tree.specs.Kept.{kept}
 use Rattle.rx_finish.proofs.Allowed.{census_allowed}
 use Rattle.rx_tree.proofs.Replies.{at_kept}

@@ -1,11 +1,8 @@
-use Rattle.std.specs.Prelude.{◌≡◌, map, slice_set, Some}
+use Rattle.std.proofs.Common.{◌≡◌, map, slice_set, Some, ap, ◌∙◌, rules, ◌<◌, ◌≤◌, arith}
 use Rattle.std.specs.Vec.{with_items}
 use Rattle.std.proofs.lemmas.List.{with_items_is}
-use Rattle.std.proofs.Common.{ap, ◌∙◌, rules}
-use Rattle.rx_rules.specs.Entries.{hit}
-use Rattle.rx_rules.specs.Tree.{Tree}
+use Rattle.rx_rules.proofs.Common.{hit, Tree}
 use Rattle.rx_tree.specs.Kept.{kept}
-use Rattle.std.proofs.Common.{◌<◌, ◌≤◌, arith}
 use Rattle.rx_tree.proofs.Places.{places_few}
 use Rattle.rx_tree.proofs.Replies.{at_kept, died, by_tasks}
 use Rattle.rx_tree.proofs.plain.TreeLedgerFinishLedger.death.Goals as goal

@@ -1,10 +1,8 @@
-use Rattle.std.specs.Prelude.{◌≡◌, ◌++◌, List}
+use Rattle.std.proofs.Common.{◌≡◌, ◌++◌, List, sym, ap, ◌∙◌, rules, subst}
 use Rattle.std.specs.Vec.{with_items}
 use Rattle.std.proofs.lemmas.List.{with_items_is}
-use Rattle.std.proofs.Common.{sym, ap, ◌∙◌, rules, subst}
 use Rattle.rx_rules.specs.declared.tasks.Scope.{Scope}
-use Rattle.rx_rules.specs.Tree.{Tree, is_scope}
-use Rattle.rx_rules.specs.Entries.{change_first}
+use Rattle.rx_rules.proofs.Common.{Tree, is_scope, change_first}
 use Rattle.rx_finish.specs.Calls.{IsUnstruck}
 use Rattle.rx_tree.specs.Kept.{kept}
 use Rattle.rx_finish.specs.Callers.{IsBare}

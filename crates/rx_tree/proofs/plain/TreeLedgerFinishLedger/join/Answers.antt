@@ -1,6 +1,5 @@
-use Rattle.std.specs.Prelude.{◌≡◌, ◌+◌, suc}
-use Rattle.std.proofs.Common.{arith}
-use Rattle.rx_rules.specs.Tree.{Tree}
+use Rattle.std.proofs.Common.{◌≡◌, ◌+◌, suc, arith}
+use Rattle.rx_rules.proofs.Common.{Tree}
 use Rattle.rx_tree.specs.Kept.{kept}
 use Rattle.rx_finish.specs.Callers.{MayJoin}
 use Rattle.rx_tree.proofs.Replies.{at_kept, joined, by_places}

@@ -1,14 +1,11 @@
-use Rattle.std.specs.Prelude.{◌≡◌, ◌∷◌, ◌+◌, suc, refl}
+use Rattle.std.proofs.Common.{◌≡◌, ◌∷◌, ◌+◌, suc, refl, ap, ◌∙◌, rules, arith}
 use Rattle.std.specs.Vec.{with_items}
 use Rattle.std.proofs.lemmas.List.{with_items_is}
-use Rattle.std.proofs.Common.{ap, ◌∙◌, rules, arith}
 use Rattle.rx_rules.specs.declared.tasks.Task.{Task}
-use Rattle.rx_rules.specs.Tree.{Tree, is_task}
-use Rattle.rx_rules.specs.Entries.{change_first}
+use Rattle.rx_rules.proofs.Common.{Tree, is_task, change_first, home_for, place_number, born, opened, waiting}
 use Rattle.rx_finish.specs.Calls.{IsUnstruck}
 use Rattle.rx_tree.specs.Kept.{kept}
 use Rattle.rx_rules.specs.declared.tasks.Kind.TheVariants.{Call}
-use Rattle.rx_rules.specs.Entries.{home_for, place_number, born, opened, waiting}
 use Rattle.rx_finish.specs.Callers.{IsMoving}
 use Rattle.rx_finish.proofs.Allowed.{call_allowed}
 use Rattle.rx_finish.proofs.Unstruck.{home_is}

@@ -1,7 +1,5 @@
-use Rattle.std.specs.Prelude.{◌≡◌, refl}
-use Rattle.std.proofs.Common.{rules}
-use Rattle.rx_rules.specs.Tree.{Tree}
-use Rattle.rx_rules.specs.Entries.{home_for, place_number}
+use Rattle.std.proofs.Common.{◌≡◌, refl, rules}
+use Rattle.rx_rules.proofs.Common.{Tree, home_for, place_number}
 use Rattle.rx_finish.specs.Callers.{IsMoving}
 use Rattle.rx_finish.specs.Calls.{IsUnstruck}
 use Rattle.rx_tree.specs.Kept.{kept}

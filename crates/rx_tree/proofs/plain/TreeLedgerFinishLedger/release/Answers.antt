@@ -1,13 +1,9 @@
-use Rattle.std.specs.Prelude.{◌≡◌}
+use Rattle.std.proofs.Common.{◌≡◌, ap, ◌∙◌, rules, sym, subst, Ok}
 use Rattle.std.specs.Vec.{with_items}
 use Rattle.std.proofs.lemmas.List.{with_items_is}
-use Rattle.std.proofs.Common.{ap, ◌∙◌, rules, sym, subst}
-use Rattle.rx_rules.specs.Tree.{Tree, is_task}
-use Rattle.rx_rules.specs.Entries.{change_first}
+use Rattle.rx_rules.proofs.Common.{Tree, is_task, change_first, resumed}
 use Rattle.rx_finish.specs.Calls.{IsUnstruck}
 use Rattle.rx_tree.specs.Kept.{kept}
-use Rattle.std.specs.Prelude.{Ok}
-use Rattle.rx_rules.specs.Entries.{resumed}
 use Rattle.rx_tree.specs.Inside.Removal.{LeaveReply}
 use Rattle.rx_tree.proofs.Replies.{at_kept, released, by_tasks}
 use Rattle.rx_tree.proofs.Falling.{in_order, kept_sound, left_in_order}

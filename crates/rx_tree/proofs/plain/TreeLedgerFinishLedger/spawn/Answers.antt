@@ -1,6 +1,5 @@
-use Rattle.std.specs.Prelude.{refl}
-use Rattle.std.proofs.Common.{rules, sym, subst}
-use Rattle.rx_rules.specs.Tree.{Tree}
+use Rattle.std.proofs.Common.{refl, rules, sym, subst}
+use Rattle.rx_rules.proofs.Common.{Tree}
 use Rattle.rx_finish.specs.Calls.{IsUnstruck}
 use Rattle.rx_tree.specs.Kept.{kept}
 use Rattle.rx_finish.proofs.Allowed.{spawn_allowed}

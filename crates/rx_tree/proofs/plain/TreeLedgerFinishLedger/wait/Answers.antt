@@ -1,13 +1,10 @@
-use Rattle.std.specs.Prelude.{◌≡◌, List}
+use Rattle.std.proofs.Common.{◌≡◌, List, ap, ◌∙◌, rules, sym, subst}
 use Rattle.std.specs.Vec.{with_items}
 use Rattle.std.proofs.lemmas.List.{with_items_is}
-use Rattle.std.proofs.Common.{ap, ◌∙◌, rules, sym, subst}
 use Rattle.rx_rules.specs.declared.tasks.Scope.{Scope}
-use Rattle.rx_rules.specs.Tree.{Tree, is_task, is_scope}
-use Rattle.rx_rules.specs.Entries.{change_first}
+use Rattle.rx_rules.proofs.Common.{Tree, is_task, is_scope, change_first, waiting}
 use Rattle.rx_finish.specs.Calls.{IsUnstruck}
 use Rattle.rx_tree.specs.Kept.{kept}
-use Rattle.rx_rules.specs.Entries.{waiting}
 use Rattle.rx_finish.proofs.Allowed.{wait_allowed}
 use Rattle.rx_tree.proofs.Replies.{at_kept, did, by_rows}
 use Rattle.rx_tree.proofs.Falling.{in_order}

@@ -1,8 +1,7 @@
 use Rattle.std.proofs.Common.{rules, ◌≡◌, ℕ, ◌+◌, true, false, List, Some, sym, subst, arith, ◌∙◌}
 use Rattle.std.proofs.lemmas.Bool.{true≢false}
 use Rattle.std.proofs.lemmas.Option.{slice_get_within}
-use Rattle.rx_rules.specs.Terms.{begins}
-use Rattle.rx_rules.specs.Plays.{begun}
+use Rattle.rx_rules.proofs.Common.{begins, begun}
 use Rattle.rx_verify.specs.declared.along.Along.{Along}
 use Rattle.rx_verify.specs.Along.{GoesAlong}
 use Rattle.rx_verify.proofs.GoingAlong.{begun_none, begun_some, goes_on, parts}

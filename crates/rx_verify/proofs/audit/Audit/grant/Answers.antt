@@ -1,6 +1,5 @@
 use Rattle.std.proofs.Common.{false, true}
-use Rattle.rx_rules.specs.Entries.{AllowedAct}
-use Rattle.rx_rules.specs.Fold.{tree_of}
+use Rattle.rx_rules.proofs.Common.{AllowedAct, tree_of}
 use Rattle.rx_chronicle.specs.Told.{left_to_join}
 use Rattle.rx_verify.proofs.Audited.{grant_on, decided}
 use Rattle.rx_verify.proofs.audit.Audit.grant.Goals as goal

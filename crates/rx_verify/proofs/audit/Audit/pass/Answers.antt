@@ -1,7 +1,6 @@
 use Rattle.std.proofs.Common.{ap, subst}
 use Rattle.rx_rules.specs.declared.entries.Entry.TheVariants.{Death, Join}
-use Rattle.rx_rules.specs.Fold.{tree_of}
-use Rattle.rx_rules.specs.Run.{IsDue}
+use Rattle.rx_rules.proofs.Common.{tree_of, IsDue}
 use Rattle.rx_kills.specs.Least.{entry_of}
 use Rattle.rx_kills.specs.declared.schedule.Due.{Due}
 use Rattle.rx_chronicle.specs.Told.{left_to_join}

@@ -1,8 +1,7 @@
 use Rattle.std.proofs.Common.{◌∙◌, sym, subst}
 use Rattle.std.proofs.lemmas.Bool.{true≢false}
 use Rattle.rx_rules.specs.declared.entries.Entry.TheVariants.{Root}
-use Rattle.rx_rules.specs.Entries.{Allowed}
-use Rattle.rx_rules.specs.Fold.{tree_of}
+use Rattle.rx_rules.proofs.Common.{Allowed, tree_of}
 use Rattle.rx_finish.specs.declared.ledger.Outcome.{Outcome}
 use Rattle.rx_chronicle.specs.Told.{left_to_join}
 use Rattle.rx_verify.proofs.Agreeing.{refusing}

@@ -1,9 +1,7 @@
 use Rattle.std.proofs.Common.{◌≡◌, ℕ, ◌+◌, length, suc, List, [], drop, Some, slice_get, subst, refl, ap, sym, ◌∙◌, arith}
 use Rattle.std.proofs.lemmas.Option.{slice_get_read}
-use Rattle.rx_rules.specs.Code.{Block}
-use Rattle.rx_rules.specs.Run.{Given}
+use Rattle.rx_rules.proofs.Common.{Block, Given, moves_from}
 use Rattle.rx_rules.specs.declared.entries.Entry.{Entry}
-use Rattle.rx_rules.specs.Plays.{moves_from}
 use Rattle.rx_rules.specs.declared.events.PlaceEvent.{PlaceEvent}
 use Rattle.rx_syntax.specs.Shape.{Shape}
 use Rattle.rx_syntax.specs.Grammar.{AllInRange}

@@ -1,7 +1,6 @@
-use Rattle.std.specs.Prelude.{List, length}
+use Rattle.std.proofs.Common.{List, length}
 use Rattle.rx_rules.specs.declared.entries.Entry.{Entry}
-use Rattle.rx_rules.specs.Code.{Block}
-use Rattle.rx_rules.specs.Run.{Given}
+use Rattle.rx_rules.proofs.Common.{Block, Given}
 use Rattle.rx_syntax.specs.Shape.{Stands}
 use Rattle.rx_history.specs.Events.{events_of}
 use Rattle.rx_verify.specs.Players.{PlayersAre, PlayersStand, none_rests}

@@ -1,6 +1,5 @@
 use Rattle.std.proofs.Common.{◌≡◌, ℕ, suc, ◌+◌, ◌≤◌, length, refl, ap, sym, subst, ◌∙◌, arith}
-use Rattle.rx_rules.specs.Code.{Block, work}
-use Rattle.rx_rules.specs.Terms.{no_vars}
+use Rattle.rx_rules.proofs.Common.{Block, work, no_vars}
 use Rattle.rx_check.proofs.OneTree.{one-tree}
 use Rattle.rx_history.specs.Events.{events_of}
 use Rattle.rx_verify.specs.Table.{TableIs}

@@ -1,7 +1,7 @@
 use Rattle.std.proofs.Common.{rules, ◌≡◌, ℕ, ◌<◌, ◌≤◌, List, Some, length, take, get_or, slice_get, refl, ap, sym, subst, ◌∙◌}
 use Rattle.std.proofs.lemmas.Option.{slice_get_read}
 use Rattle.rx_base.proofs.Elements.{empty-from}
-use Rattle.rx_rules.specs.Fold.{tree_of}
+use Rattle.rx_rules.proofs.Common.{tree_of}
 use Rattle.rx_ledger.specs.TermAsks.{MayAskAct}
 use Rattle.rx_history.specs.Events.{events_of}
 use Rattle.rx_sound.proofs.Histories.{fold_reached}

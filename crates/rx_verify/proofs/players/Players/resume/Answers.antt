@@ -1,6 +1,6 @@
 use Rattle.std.proofs.Common.{◌≡◌, ℕ, Bool, List, Some, get_or, slice_get, true, refl, ap, sym, subst, ◌∙◌}
 use Rattle.std.specs.Global.{Box}
-use Rattle.rx_base.specs.declared.ids.ScopeId.{ScopeId}
+use Rattle.rx_rules.proofs.Common.{ScopeId}
 use Rattle.rx_rules.specs.Plays.{Fits}
 use Rattle.rx_sound.proofs.Histories.{fold_reached}
 use Rattle.rx_verdict.specs.Walks.{next_does}

@@ -1,6 +1,5 @@
 use Rattle.std.proofs.Common.{ℕ, ◌<◌, ◌≤◌, ◌+◌}
-use Rattle.rx_rules.specs.Picked.{Player}
-use Rattle.rx_rules.specs.Plays.{Cells}
+use Rattle.rx_rules.proofs.Common.{Player, Cells}
 use Rattle.rx_runs.specs.Steps.{steps}
 use Rattle.rx_history.specs.Events.{events_of}
 use Rattle.rx_verify.specs.Table.{TableIs}

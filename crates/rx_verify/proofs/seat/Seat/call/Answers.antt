@@ -2,7 +2,7 @@ use Rattle.std.proofs.Common.{rules, ◌≡◌, ℕ, suc, ◌<◌, ◌≤◌, Li
 use Rattle.std.proofs.lemmas.Bool.{true≢false}
 use Rattle.std.proofs.lemmas.Option.{same_Some}
 use Rattle.rx_rules.specs.declared.events.PlaceEvent.{PlaceEvent}
-use Rattle.rx_rules.specs.Plays.{journal_at}
+use Rattle.rx_rules.proofs.Common.{journal_at}
 use Rattle.rx_history.specs.Events.{events_of}
 use Rattle.rx_verify.proofs.Following.{none_past}
 use Rattle.rx_verify.proofs.Rows.{first_again, no_task_there}

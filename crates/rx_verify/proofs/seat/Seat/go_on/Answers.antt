@@ -1,5 +1,5 @@
 use Rattle.std.proofs.Common.{◌≡◌, ◌+◌, Bool, suc, refl, ap, sym, subst, arith}
-use Rattle.rx_rules.specs.Terms.{Vars, Does, does}
+use Rattle.rx_rules.proofs.Common.{Vars, Does, does}
 use Rattle.rx_verify.specs.Inside.Requests.{AfterAct, IsAsked}
 use Rattle.rx_verify.proofs.AdmitRequests.{request_made, request_missed}
 use Rattle.rx_verify.proofs.seat.Seat.go_on.Goals as goal

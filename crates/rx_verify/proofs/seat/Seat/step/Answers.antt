@@ -1,5 +1,5 @@
 use Rattle.std.proofs.Common.{◌≡◌, Bool, sym, subst}
-use Rattle.rx_base.specs.declared.ids.PlaceId.{PlaceId}
+use Rattle.rx_rules.proofs.Common.{PlaceId}
 use Rattle.rx_history.specs.Next.{next_of}
 use Rattle.rx_verdict.specs.Walks.{next_does, Halts}
 use Rattle.rx_verify.specs.Inside.Steps.{AfterCall}

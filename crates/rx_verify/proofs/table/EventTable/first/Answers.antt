@@ -1,6 +1,6 @@
 use Rattle.std.proofs.Common.{ℕ, Option, length, subst, sym, arith, refl}
 use Rattle.std.proofs.lemmas.Option.{slice_get_read, slice_get_past}
-use Rattle.rx_rules.specs.Plays.{journal_at}
+use Rattle.rx_rules.proofs.Common.{journal_at}
 use Rattle.rx_verify.specs.declared.table.Row.{Row}
 use Rattle.rx_verify.specs.Events.{IsFirst}
 use Rattle.rx_verify.specs.Table.{row_first}

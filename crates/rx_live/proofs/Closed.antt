@@ -10,10 +10,10 @@ use Rattle.rx_book.specs.Named.{BookName}
 use Rattle.rx_parts.specs.declared.items.EntryItem.{EntryItem}
 use Rattle.rx_parts.specs.declared.items.EventItem.{EventItem}
 use Rattle.rx_objects.specs.declared.ledger.LedgerFixed.{LedgerFixed}
-use Rattle.rx_objects.specs.Ending.{IsHeard, EachEnds}
+use Rattle.rx_objects.specs.Ending.{IsHeard, EachEnds, SeesEnd}
 use Rattle.rx_stations.specs.Stations.{PostName, AreFrom}
 use Rattle.rx_stations.specs.Closed.{IsClosed}
-use Rattle.rx_live.specs.Inside.Ending.{SeatsFrom, SeesEnd, StaysAt, PlacesEnded, views_of}
+use Rattle.rx_live.specs.Inside.Ending.{SeatsFrom, StaysAt, PlacesEnded, views_of}
 use Rattle.rx_stations.proofs.Stationing.{post_at}
 use Rattle.rx_live.proofs.Seats.{seat_at}
 use Rattle.rx_live.proofs.Noted.{viewed}

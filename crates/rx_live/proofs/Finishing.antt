@@ -1,12 +1,7 @@
 -- The end of a run in parts, in its steps.
-use Rattle.std.proofs.Common.{◌≡◌, ℕ, suc, ◌+◌, ◌≤◌, List, [], ◌∷◌, ◌++◌, length, Option, Some, None, slice_get, refl, ap, sym, ◌∙◌, subst, arith}
-use Rattle.std.proofs.lemmas.List.{append-nil, map-append}
-use mathlib.Core.List.{IsPrefix}
-use Rattle.rx_rules.specs.declared.entries.Entry.{Entry}
-use Rattle.rx_rules.specs.declared.entries.Entry.TheVariants.{Step, Root, Death, Join}
+use Rattle.std.proofs.Common.{◌≡◌, ℕ, suc, ◌+◌, ◌≤◌, List, [], ◌∷◌, length, Option, Some, None, slice_get, refl, ap, sym, ◌∙◌, subst, arith}
 use Rattle.rx_rules.proofs.Common.{Block, EndsWithRoot, death_number}
 use Rattle.rx_syntax.specs.Shape.{Stands}
-use Rattle.rx_history.specs.Setups.{given}
 use Rattle.rx_store.specs.Kept.{Kept}
 use Rattle.rx_book.specs.declared.views.Stamped.{Stamped}
 use Rattle.rx_book.specs.declared.views.View.{View}
@@ -14,42 +9,14 @@ use Rattle.rx_book.specs.declared.passes.Pass.{Pass}
 use Rattle.rx_book.specs.declared.passes.Note.{Note}
 use Rattle.rx_book.specs.Passes.{view_of, word_of, note_view}
 use Rattle.rx_book.specs.Named.{BookName}
-use Rattle.rx_parts.specs.Ledger.{LegalLedger}
-use Rattle.rx_parts.proofs.Reading.{root-ends}
 use Rattle.rx_parts.specs.declared.items.EntryItem.{EntryItem}
 use Rattle.rx_parts.specs.declared.items.EventItem.{EventItem}
-use Rattle.rx_parts.specs.Histories.{ledger_item, ledger_items}
 use Rattle.rx_objects.specs.declared.ledger.LedgerFixed.{LedgerFixed}
 use Rattle.rx_objects.specs.Ledger.{LedgerIsLegal}
-use Rattle.rx_objects.specs.Ending.{entries_at, IsHeard, PlaceEnds, EachEnds, StampsBeforeDeath}
-use Rattle.rx_objects.proofs.Ending.{no_items, all_later}
-use Rattle.rx_objects.proofs.Staying.{entries_same}
+use Rattle.rx_objects.specs.Ending.{entries_at, IsHeard, PlaceEnds, EachEnds, StampsBeforeDeath, SeesEnd}
+use Rattle.rx_objects.proofs.Ending.{all_later}
 use Rattle.rx_stations.specs.Closed.{IsClosed}
-use Rattle.rx_live.specs.Inside.Ending.{SeesEnd, StaysAt, HaveWords, ShutsAt, MayBeShut}
-
--- nothing stands behind the root's release
-pub whole_is : (code : Block) (f : LedgerFixed) (s h : List (Stamped EntryItem)) → Stands f.program.script code → EndsWithRoot (entries_at s) → LedgerIsLegal f h → IsPrefix s h → h ≡ s
-whole_is code f s h stands ends lawful (rest, is) = sym is ∙ (ap (λ (l : List (Stamped EntryItem)). s ++ l) nothing ∙ append-nil s)
-  where
-    parts : ledger_items h ≡ ledger_items s ++ ledger_items rest
-    parts = ap ledger_items (sym is) ∙ map-append ledger_item s rest
-
-    nothing : rest ≡ []
-    nothing =
-        no_items rest (root-ends code (given f.setup) (ledger_items s) (ledger_items rest)
-        (subst (LegalLedger code (given f.setup)) parts (lawful.made code stands))
-        (subst EndsWithRoot (sym (entries_same s)) ends))
-
--- no entry is both the last and followed by others
-pub none_behind : (es more : List Entry) → EndsWithRoot es → EndsWithRoot (es ++ more) → more ≡ []
-none_behind [] more ends both = absurd ends
-none_behind (Root lost masked thrown ∷ es) more ends both =
-    let a : es ≡ [] = ends in
-    let b : es ++ more ≡ [] = both in
-    sym (ap (λ (l : List Entry). l ++ more) a) ∙ b
-none_behind (Step t act batch ∷ es) more ends both = none_behind es more ends both
-none_behind (Death d ∷ es) more ends both = none_behind es more ends both
-none_behind (Join d ∷ es) more ends both = none_behind es more ends both
+use Rattle.rx_live.specs.Inside.Ending.{StaysAt, HaveWords, ShutsAt, MayBeShut}
 
 pub sees_more : (L : BookName LedgerFixed) (old new : Pass EntryItem) → SeesEnd L old → word_of new ≡ word_of old → (view_of new).seen ≡ (view_of old).seen → SeesEnd L new
 sees_more L old new sees word seen =

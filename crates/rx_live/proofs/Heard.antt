@@ -15,9 +15,9 @@ use Rattle.rx_parts.specs.declared.items.EntryItem.{EntryItem}
 use Rattle.rx_objects.specs.declared.ledger.LedgerFixed.{LedgerFixed}
 use Rattle.rx_objects.specs.Ledger.{LedgerIsLegal}
 use Rattle.rx_objects.specs.Place.{shown}
-use Rattle.rx_objects.specs.Ending.{IsHeard, MeetingHears}
+use Rattle.rx_objects.specs.Ending.{IsHeard, MeetingHears, SeesEnd}
 use Rattle.rx_activities.specs.Knowing.{IsOfRun}
-use Rattle.rx_live.specs.Inside.Ending.{SeesEnd, StaysAt, HasSeen}
+use Rattle.rx_live.specs.Inside.Ending.{StaysAt, HasSeen}
 use Rattle.rx_live.proofs.Finishing.{sees_more}
 
 pub record HeardSo (L : BookName LedgerFixed) (old new : Pass EntryItem) (n : Note EntryItem) : Type 0 where

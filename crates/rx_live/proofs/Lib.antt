@@ -5,7 +5,6 @@ mod Whole
 mod Noted
 mod Heard
 mod Closed
-mod LedgerClosed
 mod Shut
 mod Released
 mod Crosses

@@ -1,30 +1,17 @@
 -- The books of a run before its first entry.
-use Rattle.std.proofs.Common.{◌≡◌, ℕ, ◌+◌, ◌<◌, ◌≤◌, Bool, true, false, if◌then◌else◌, List, [], ◌++◌, length, Option, Some, IsSomeAnd, ap, sym, ◌∙◌, subst, arith}
+use Rattle.std.proofs.Common.{◌≡◌, ℕ, ◌+◌, ◌<◌, Bool, true, false, if◌then◌else◌, List, ◌++◌, length, Option, Some, IsSomeAnd, ap, sym, ◌∙◌}
 use Rattle.atomic_table.specs.Seated.{TableId}
-use Rattle.rx_rules.proofs.Common.{PlaceId, Proper}
-use Rattle.rx_history.specs.Setups.{given}
-use Rattle.rx_book.specs.declared.views.Stamped.{Stamped}
+use Rattle.rx_rules.proofs.Common.{PlaceId}
 use Rattle.rx_book.specs.declared.views.View.{View}
 use Rattle.rx_book.specs.declared.passes.Pass.{Pass}
 use Rattle.rx_book.specs.Kept.{born, parent_left}
 use Rattle.rx_book.specs.Named.{BookName}
 use Rattle.rx_book.specs.Passes.{view_of, word_of}
-use Rattle.rx_parts.specs.declared.items.EntryItem.{EntryItem}
 use Rattle.rx_parts.specs.declared.items.EventItem.{EventItem}
 use Rattle.rx_objects.specs.declared.ledger.LedgerFixed.{LedgerFixed}
-use Rattle.rx_objects.specs.Ledger.{LedgerIsLegal}
-use Rattle.rx_objects.proofs.Ending.{objects_open}
 use Rattle.rx_activities.specs.Knowing.{IsNewSeat}
 use Rattle.rx_stations.specs.Stations.{PostName, AreFrom}
 use Rattle.rx_live.specs.Inside.Ending.{SeatsFrom, IsFirst}
-
--- a setup has 1 to 16 places at first
-pub few_places : (f : LedgerFixed) → Proper (given f.setup) → f.setup.places ≤ 16
-few_places f proper = let few : f.setup.places + length f.setup.joins ≤ 16 = proper.few in omega (arith, few)
-
--- a history of which nothing is seen is legal
-pub unseen_legal : (f : LedgerFixed) (seen : List (Stamped EntryItem)) → Proper (given f.setup) → seen ≡ [] → LedgerIsLegal f seen
-unseen_legal f seen proper none = subst (LedgerIsLegal f) (sym none) (objects_open.0 f proper.some (few_places f proper))
 
 -- a first caller's pass stays so where passes are split from it
 pub first_left : (L : BookName LedgerFixed) (p : ℕ) (s t : Pass EventItem) → IsFirst L p s → word_of t ≡ word_of s → view_of t ≡ parent_left (view_of s) → IsFirst L p t

@@ -27,11 +27,10 @@ use Rattle.rx_parts.specs.declared.items.EntryItem.{EntryItem}
 use Rattle.rx_parts.specs.declared.items.EventItem.{EventItem}
 use Rattle.rx_objects.specs.declared.ledger.LedgerFixed.{LedgerFixed}
 use Rattle.rx_objects.specs.Noted.{Notes, AllNoted}
-use Rattle.rx_objects.specs.Ending.{entries_at, IsMet, EachEnds, EachShut, RootIsTold, StampsBeforeDeath, BooksMakeRun}
-use Rattle.rx_objects.proofs.Ending.{all_later}
-use Rattle.rx_live.specs.Inside.Ending.{IsMain, MayRelease, MayBeShut, HaveWords, PlacesEnded, RunEnds, SeesEnd, StaysAt, views_of}
+use Rattle.rx_objects.specs.Ending.{entries_at, IsMet, EachEnds, EachShut, RootIsTold, StampsBeforeDeath, BooksMakeRun, SeesEnd}
+use Rattle.rx_objects.proofs.Ending.{all_later, unseen_legal}
+use Rattle.rx_live.specs.Inside.Ending.{IsMain, MayRelease, MayBeShut, HaveWords, PlacesEnded, RunEnds, StaysAt, views_of}
 use Rattle.rx_live.proofs.Finishing.{as_many, may_shut}
-use Rattle.rx_live.proofs.Opened.{unseen_legal}
 
 -- The beginning.
 

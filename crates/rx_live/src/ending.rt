@@ -1,36 +1,25 @@
 // The end of a run, in its steps.
-ghost use Rattle.std.specs.Prelude.{◌≡◌, ℕ, ◌≤◌, ◌<◌, ◌^◌, false, List, All, Some, IfOk, IfSome, length, slice_get};
-ghost use mathlib.Core.List.{IsPrefix};
-ghost use Rattle.rx_rules.specs.Fold.{tree_of};
+ghost use Rattle.std.specs.Prelude.{◌≡◌, ℕ, ◌≤◌, ◌<◌, ◌^◌, All, Some, IfOk, IfSome, length, slice_get};
 ghost use Rattle.rx_rules.specs.Store.{IsStoreRun, opening_state};
-ghost use Rattle.rx_history.specs.Setups.{given, to_join};
 ghost use Rattle.rx_history.specs.Events.{events_of};
-ghost use Rattle.rx_book.specs.declared.views.Stamped.{Stamped};
-ghost use Rattle.rx_book.specs.History.{items_of};
 ghost use Rattle.rx_book.specs.Passes.{view_of, word_of, note_view, note_word};
-ghost use Rattle.rx_parts.specs.declared.items.EntryItem.{EntryItem as Item};
 ghost use Rattle.rx_objects.specs.Ledger.{LedgerIsLegal};
 ghost use Rattle.rx_objects.specs.Noted.{AreOfPlaces};
-ghost use Rattle.rx_objects.specs.Shown.{board_of, BoardShows};
-ghost use Rattle.rx_objects.specs.Ending.{entries_at, IsHost, IsMet, IsHeard, IsShut, EachShut};
+ghost use Rattle.rx_objects.specs.Ending.{IsHost, IsMet, IsHeard, IsShut, EachShut, SeesEnd};
 ghost use Rattle.rx_stations.specs.Stations.{AreFrom};
-ghost use Rattle.rx_live.specs.Inside.Ending.{SeatsFrom, views_of, IsAnswered, IsReleased, MeetsAt, SeesEnd};
+ghost use Rattle.rx_live.specs.Inside.Ending.{SeatsFrom, views_of, IsAnswered, IsReleased, MeetsAt};
 ghost use Rattle.rx_live.specs.Inside.Ending.{StaysAt, HasSeen, HaveWords, PlacesEnded, ShutsAt, MayBeShut};
 
-use crate::opening::end_board;
 use rx_activities::{LedgerPass, Naming};
 use rx_base::{Batch, NoMemory, PlaceId};
-use rx_book::{Book, Note, Pass};
+use rx_book::{Note, Pass};
 use rx_check::{Program, checked};
-use rx_counts::CountLedger;
-use rx_finish::FinishLedger;
 use rx_history::{Ask, History, Journal, Journals};
 use rx_kills::deaths_of;
-use rx_ledger::{Keeper, Reply, Request};
-use rx_monitor::BoardWriter;
+use rx_ledger::{Reply, Request};
 use rx_objects::{
-    LedgerBook, LedgerObject, LedgerOp, LedgerParts, LedgerReply, Mentions, PlaceBook,
-    host_is_told, host_may_ask, ledger_op_fits,
+    LedgerBook, LedgerOp, LedgerReply, Mentions, PlaceBook, host_is_told, host_may_ask,
+    ledger_op_fits,
 };
 use rx_parts::{EntryItem, EventItem};
 use rx_stations::{Station, abandon_all};
@@ -252,78 +241,7 @@ pub(crate) fn meet_worker<N: Naming, L: LedgerBook>(
     }
 }
 
-/// What the ledger's book leaves.
-pub(crate) struct Closed {
-    pub(crate) history: History,
-    pub(crate) ledger: CountLedger,
-    pub(crate) board: Option<BoardWriter>,
-}
-
-/// The sixth step: the ledger's book is closed. `None` where there was no memory to show a summary on the board, which is then closed.
-pub(crate) fn close_ledger<R: Wait>(
-    rt: &R,
-    p: &Program,
-    ledger: Book<LedgerObject>,
-    host: Pass<EntryItem>,
-) -> Option<Closed>
-    requires program { ledger.fixed.program ≡ p.now }
-    requires host { SeesEnd ledger host }
-    ensures reach { (view_of host).reach ≤ length (view_of host).seen }
-    ensures setup { IfSome result (λ r. r.history.setup ≡ ledger.fixed.setup) }
-    ensures entries { IfSome result (λ r. r.history.entries ≡ entries_at (view_of host).seen) }
-    ensures few { IfSome result (λ r. length r.history.entries ≤ 2 ^ 32) }
-    ensures ledger { IfSome result (λ r. ⟦<CountLedger as FinishLedger>⟧.stands r.ledger
-        (to_join (given ledger.fixed.setup) (tree_of ledger.fixed.setup.places r.history.entries))
-        (tree_of ledger.fixed.setup.places r.history.entries)) }
-    ensures board { IfSome result (λ r. (board_of r.board ≡ ledger.fixed.board)
-        × BoardShows ledger.fixed.setup.places r.history.entries false r.board) }
-{
-    checked(p);
-    let object = close_book(rt, ledger, host);
-    let LedgerParts {
-        keeper,
-        board,
-        late,
-    } = object.into_parts();
-    if late {
-        end_board(rt, board);
-        return None;
-    }
-    keeper.is_history();
-    is_short(&keeper);
-    let (history, ledger) = keeper.into_history();
-    Some(Closed {
-        history,
-        ledger,
-        board,
-    })
-}
-
-// A keeper's entries have numbers of 32 bits. It does nothing when it runs.
-fn is_short(keeper: &Keeper<CountLedger>)
-    ensures { length keeper.now.entries ≤ 2 ^ 32 }
-{
-    let _shown = keeper.len();
-}
-
-// The object of a closed book.
-fn close_book<R: Wait>(rt: &R, ledger: Book<LedgerObject>, host: Pass<EntryItem>) -> LedgerObject
-    requires { word_of host ≡ ledger.word }
-    ensures fixed { (result.setup ≡ ledger.fixed.setup) × (result.program ≡ ledger.fixed.program) }
-    ensures board { result.board ≡ ledger.fixed.board }
-    ensures closed { (h : List (Stamped Item)) × (result.entries ≡ items_of h) × LedgerIsLegal ledger.fixed h
-        × IsPrefix (view_of host).seen h × ((view_of host).reach ≤ length h) }
-{
-    match ledger.close(rt, host) {
-        Ok(object) => object,
-        Err(refused) => {
-            let (_ledger, _pass, _) = refused;
-            unreachable!()
-        }
-    }
-}
-
-/// The seventh step: the stores of the places that died are closed with the numbers of their deaths.
+/// The seventh step, after `close_ledger`: the stores of the places that died are closed with the numbers of their deaths.
 pub(crate) fn close_stores(
     alloc: Global,
     history: &History,

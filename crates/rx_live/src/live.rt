@@ -8,19 +8,18 @@ ghost use Rattle.rx_syntax.specs.Shape.{Stands};
 ghost use Rattle.rx_control.specs.Stands.{StandsFor};
 ghost use Rattle.rx_book.specs.Passes.{view_of, word_of};
 ghost use Rattle.rx_objects.specs.Ledger.{LedgerIsLegal};
-ghost use Rattle.rx_objects.specs.Ending.{RootIsTold};
+ghost use Rattle.rx_objects.specs.Ending.{RootIsTold, SeesEnd};
 ghost use Rattle.rx_objects.specs.Shown.{board_of, BoardShows};
 ghost use Rattle.rx_history.specs.Events.{events_of};
 ghost use Rattle.rx_history.specs.Setups.{given, to_join};
 ghost use Rattle.rx_live.specs.Inside.Looking.{HaveLooked};
 ghost use Rattle.rx_stations.specs.Stations.{IsHall};
-ghost use Rattle.rx_live.specs.Inside.Ending.{IsMain, MayRelease, RunEnds, SeatsFrom, SeesEnd};
+ghost use Rattle.rx_live.specs.Inside.Ending.{IsMain, MayRelease, RunEnds, SeatsFrom};
 
 use crate::ending::{
-    Closed, Released, close_ledger, close_places, close_stores, meet_notes, meet_worker,
-    meet_workers, release,
+    Released, close_places, close_stores, meet_notes, meet_worker, meet_workers, release,
 };
-use crate::opening::{Places, end_board, open_ledger, open_places, open_words};
+use crate::opening::{Places, open_places};
 use crate::watching::{Looked, Looker, beside};
 use rx_activities::{Activity, LedgerPass, Naming};
 use rx_base::{Gate, NoGate, NoMemory, PlaceId};
@@ -31,7 +30,10 @@ use rx_counts::CountLedger;
 use rx_finish::FinishLedger;
 use rx_history::{History, Journals, Setup};
 use rx_monitor::BoardWriter;
-use rx_objects::{LedgerBook, LedgerObject, PlaceBook};
+use rx_objects::{
+    ClosedLedger, LedgerBook, LedgerObject, PlaceBook, abandon_ledger, close_ledger, end_board,
+    open_ledger, open_words,
+};
 use rx_parts::{EntryItem, EventItem};
 use rx_stations::{Hall, Worker, work};
 use rx_store::Store;
@@ -130,13 +132,13 @@ pub(crate) fn run_with<G: Gate + Sync, R: Threads + Wait + Sync>(
         rt, alloc, p, workers, gate, setup.heap, &book, &mut host, main, looker,
     );
     let Some(Ends { stores, looked }) = done else {
-        let _keeper = book.abandon(rt).into_keeper(rt);
+        abandon_ledger(rt, book);
         return Err(NoMemory);
     };
     let Some(closed) = close_ledger(rt, p, book, host) else {
         return Err(NoMemory);
     };
-    let Closed {
+    let ClosedLedger {
         history,
         ledger,
         board,

@@ -5,7 +5,7 @@ use Rattle.std.proofs.lemmas.List.Elements.{All-weaker}
 use Rattle.std.proofs.lemmas.Option.{slice_get_within}
 use Rattle.std.proofs.lemmas.Bool.Decides.{eqb_tells}
 use mathlib.Core.List.{IsPrefix}
-use Rattle.rx_rules.proofs.Common.{PlaceId, Block, Given, EndsWithRoot, IsRun, death_number}
+use Rattle.rx_rules.proofs.Common.{PlaceId, Block, Given, Proper, EndsWithRoot, IsRun, death_number}
 use Rattle.rx_rules.specs.declared.entries.Entry.{Entry}
 use Rattle.rx_rules.specs.declared.events.PlaceEvent.{PlaceEvent}
 use Rattle.rx_rules.specs.declared.events.PlaceEvent.TheVariants.{Close}
@@ -47,6 +47,14 @@ use Rattle.rx_objects.proofs.Named.{noted_are_named}
 pub objects_open : ObjectsOpen
 objects_open =
     ((λ f some few. record { made = λ code stands. ledger-opens code (given f.setup) some few; host = tt }), (λ f code stands. tt))
+
+-- a setup has 1 to 16 places at first
+few_places : (f : LedgerFixed) → Proper (given f.setup) → f.setup.places ≤ 16
+few_places f proper = let few : f.setup.places + length f.setup.joins ≤ 16 = proper.few in omega (arith, few)
+
+-- a history of which nothing is seen is legal
+pub unseen_legal : (f : LedgerFixed) (seen : List (Stamped EntryItem)) → Proper (given f.setup) → seen ≡ [] → LedgerIsLegal f seen
+unseen_legal f seen proper none = subst (LedgerIsLegal f) (sym none) (objects_open.0 f proper.some (few_places f proper))
 
 -- Notes of places.
 

@@ -9,6 +9,7 @@ pub mod Named
 pub mod Host
 pub mod Begins
 pub mod Ending
+mod LedgerClosed
 pub mod Crosses
 pub mod Scene
 pub mod Dying

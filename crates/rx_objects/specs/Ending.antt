@@ -13,9 +13,10 @@ use Rattle.rx_history.specs.Setups.{given}
 use Rattle.rx_store.specs.Kept.{Kept, last_stamp}
 use Rattle.rx_book.specs.declared.views.Stamped.{Stamped}
 use Rattle.rx_book.specs.declared.views.View.{View}
+use Rattle.rx_book.specs.declared.passes.Pass.{Pass}
 use Rattle.rx_book.specs.declared.passes.Note.{Note}
 use Rattle.rx_book.specs.History.{items_of, entries_by}
-use Rattle.rx_book.specs.Passes.{note_view}
+use Rattle.rx_book.specs.Passes.{view_of, word_of, note_view}
 use Rattle.rx_book.specs.Named.{BookName}
 use Rattle.rx_book.specs.Calls.{Called, Met}
 use Rattle.rx_ledger.specs.declared.asks.Reply.TheVariants.{RootDone}
@@ -53,6 +54,12 @@ abbrev pub HostIsTold : Type 0
 HostIsTold = (f : LedgerFixed) (place : EntryItem → Option ℕ) (v w : View EntryItem) (op : LedgerOp) (r : LedgerReply) → IsHost v
     → Called place (LedgerDoes f) (LedgerIsLegal f) v op r w
     → (r.reply ≡ RootDone → RootIsTold f r.notes.items w.seen) × (is_root_done r.reply ≡ false → IsHost w)
+
+-- the host's pass is of the run's ledger and has seen its whole history, which ends with the root's release
+pub record SeesEnd (L : BookName LedgerFixed) (pass : Pass EntryItem) : Type 0 where
+  pub word : word_of pass ≡ L.word
+  pub lawful : LedgerIsLegal L.fixed (view_of pass).seen
+  pub ends : EndsWithRoot (entries_at (view_of pass).seen)
 
 -- The places' books.
 

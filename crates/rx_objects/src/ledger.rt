@@ -10,7 +10,7 @@ ghost use Rattle.rx_objects.specs.Inside.Stepping.{Stepped};
 use crate::hint::{Hint, end_under, hint_of};
 use crate::mentions::Mentions;
 use crate::scopes::ScopeSet;
-use crate::showing::{BoardName, show_new};
+use crate::showing::{BoardName, end_board, show_new};
 use crate::trail::Trail;
 use rx_base::{PlaceId, PlaceSet};
 use rx_book::{BareBook, Note, Object};
@@ -181,11 +181,11 @@ fn hand_out(
 }
 
 /// What is left of a ledger's object, once its notes are let go.
-pub struct LedgerParts {
-    pub keeper: Keeper<CountLedger>,
-    pub board: Option<BoardWriter>,
+pub(crate) struct LedgerParts {
+    pub(crate) keeper: Keeper<CountLedger>,
+    pub(crate) board: Option<BoardWriter>,
     /// Whether there was no memory for a summary.
-    pub late: bool,
+    pub(crate) late: bool,
 }
 
 impl LedgerObject {
@@ -223,7 +223,7 @@ impl LedgerObject {
 
     /// The keeper, whose entries are those of the items, and the board, which shows them, the last summary being that of all of them
     /// unless there was no memory for one. The notes are let go. It takes no memory.
-    pub fn into_parts(self) -> LedgerParts
+    pub(crate) fn into_parts(self) -> LedgerParts
         ensures entries { entries_in self.entries ≡ result.keeper.entries }
         ensures setup { result.keeper.setup ≡ self.setup }
         ensures board { board_of result.board ≡ self.board }
@@ -257,10 +257,7 @@ impl LedgerObject {
             board,
             late: _,
         } = self.into_parts();
-        match board {
-            Some(board) => board.close(rt),
-            None => {}
-        }
+        end_board(rt, board);
         keeper
     }
 }

@@ -38,6 +38,14 @@ pub fn opening_summary() -> Summary
     }
 }
 
+/// Closes a board, if there is one.
+pub fn end_board<R: Wait>(rt: &R, board: Option<BoardWriter>) {
+    match board {
+        Some(board) => board.close(rt),
+        None => {}
+    }
+}
+
 // The summary of all entries of a keeper.
 fn summary(keeper: &Keeper<CountLedger>) -> Summary
     requires { keeper.now.behind ≡ [] }

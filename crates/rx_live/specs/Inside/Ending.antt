@@ -10,7 +10,7 @@ use Rattle.rx_control.specs.Stands.{StandsFor}
 use Rattle.rx_finish.specs.declared.ledger.Caller.{Caller}
 use Rattle.rx_ledger.specs.Answering.{main_caller}
 use Rattle.atomic_table.specs.Seated.{TableId}
-use Rattle.rx_rules.specs.Run.{EndsWithRoot, in_all, death_number}
+use Rattle.rx_rules.specs.Run.{in_all, death_number}
 use Rattle.rx_history.specs.Setups.{given}
 use Rattle.rx_store.specs.Kept.{Kept, ends_closed, last_stamp}
 use Rattle.rx_book.specs.declared.views.Stamped.{Stamped}
@@ -27,7 +27,7 @@ use Rattle.rx_parts.specs.declared.items.EventItem.{EventItem}
 use Rattle.rx_objects.specs.declared.ledger.LedgerFixed.{LedgerFixed}
 use Rattle.rx_objects.specs.Ledger.{LedgerIsLegal, is_root_done}
 use Rattle.rx_objects.specs.Noted.{Notes, AllNoted}
-use Rattle.rx_objects.specs.Ending.{entries_at, IsHost, RootIsTold, IsMet, EachEnds}
+use Rattle.rx_objects.specs.Ending.{IsHost, RootIsTold, SeesEnd, IsMet, EachEnds}
 use Rattle.rx_stations.specs.Stations.{PostName}
 use Rattle.rx_live.specs.declared.ending.Released.{Released}
 use Rattle.rx_live.specs.declared.ending.Released.TheVariants.{Done, NotYet, NoMemory}
@@ -89,12 +89,6 @@ pub record MeetsAt (seats : List (Pass EventItem)) (at : ℕ) (n : View EventIte
 abbrev pub HaveWords : ℕ → List Kept → Type 0
 HaveWords n [] = Unit {0}
 HaveWords n (s ∷ ss) = (s.words ≡ n) × HaveWords n ss
-
--- the host's pass is of the run's ledger and has seen its whole history, which ends with the root's release
-pub record SeesEnd (L : BookName LedgerFixed) (pass : Pass EntryItem) : Type 0 where
-  pub word : word_of pass ≡ L.word
-  pub lawful : LedgerIsLegal L.fixed (view_of pass).seen
-  pub ends : EndsWithRoot (entries_at (view_of pass).seen)
 
 -- the same history is seen, and no fewer entries are known of
 pub record StaysAt (old new : Pass EntryItem) : Type 0 where

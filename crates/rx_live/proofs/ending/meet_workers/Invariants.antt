@@ -1,5 +1,6 @@
 use Rattle.std.proofs.Common.{length}
-use Rattle.rx_live.specs.Inside.Ending.{SeesEnd, StaysAt}
+use Rattle.rx_objects.specs.Ending.{SeesEnd}
+use Rattle.rx_live.specs.Inside.Ending.{StaysAt}
 use Rattle.rx_live.proofs.Heard.{AreSeen}
 use Rattle.rx_live.proofs.ending.meet_workers.Given as goal
 

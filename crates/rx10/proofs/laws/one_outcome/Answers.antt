@@ -1,5 +1,0 @@
-use Rattle.rx10.proofs.Outcomes.{one-outcome}
-use Rattle.rx10.proofs.laws.one_outcome.Goals as goal
-
-pub returns : goal.returns
-returns c = one-outcome c.picked_run_is_one.ensures c.setups_are_proper.ensures c.text_tells_answer.ensures c.one_script.ensures c.answer_is_one.ensures

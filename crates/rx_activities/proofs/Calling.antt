@@ -41,9 +41,10 @@ use Rattle.rx_objects.specs.Ending.{entries_at}
 use Rattle.rx_objects.specs.Ledger.{LedgerIsLegal}
 use Rattle.rx_objects.specs.Place.{last_carried}
 use Rattle.rx_objects.proofs.Staying.{entries_same}
+use Rattle.rx_objects.specs.Opened.{PlaceIs}
 use Rattle.rx_activities.specs.declared.hand.Hand.{Hand}
 use Rattle.rx_activities.proofs.BelowFew.{few_there}
-use Rattle.rx_activities.specs.Knowing.{StandsSo, Knows, PlaceIs, since, kinds_told, Serves}
+use Rattle.rx_activities.specs.Knowing.{StandsSo, Knows, since, kinds_told, Serves}
 
 -- what is fixed of the object of the activity's place, and the operation
 abbrev pub fixed_at : BookName LedgerFixed → Hand → ℕ → PlaceFixed

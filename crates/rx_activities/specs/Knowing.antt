@@ -32,7 +32,6 @@ use Rattle.rx_parts.specs.declared.items.EntryItem.{EntryItem}
 use Rattle.rx_parts.specs.declared.items.EventItem.{EventItem}
 use Rattle.rx_parts.specs.Histories.{event_named, ledger_items, cells_in}
 use Rattle.rx_objects.specs.declared.ledger.LedgerFixed.{LedgerFixed}
-use Rattle.rx_objects.specs.declared.place.PlaceFixed.{PlaceFixed}
 use Rattle.rx_objects.specs.Mentioned.{as_named}
 use Rattle.rx_objects.specs.Ending.{entries_at}
 use Rattle.rx_objects.specs.Ledger.{LedgerIsLegal}
@@ -45,12 +44,6 @@ entries_seen p = entries_at (view_of p).seen
 
 abbrev pub tree_seen : LedgerFixed → Pass EntryItem → Tree
 tree_seen f p = tree_of f.setup.places (entries_seen p)
-
--- the book is that of place p of a run with this ledger
-pub record PlaceIs (L : BookName LedgerFixed) (p : PlaceId) (b : BookName PlaceFixed) : Type 0 where
-  pub at : slice_get L.fixed.places p.0 ≡ Some b.word
-  pub here : b.fixed.place ≡ p
-  pub ledger : b.fixed.ledger ≡ L
 
 -- the pass is of the run's ledger, and has seen a legal history
 pub record IsOfRun (L : BookName LedgerFixed) (p : Pass EntryItem) : Type 0 where

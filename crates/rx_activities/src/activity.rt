@@ -1,6 +1,7 @@
 // Activities, as queues and mailboxes hold them: what is known of one is known by its type.
 ghost use Rattle.std.specs.Prelude.{◌≡◌, ◌<◌};
-ghost use Rattle.rx_activities.specs.Knowing.{PlaceIs, IsOfRun, Knows};
+ghost use Rattle.rx_objects.specs.Opened.{PlaceIs};
+ghost use Rattle.rx_activities.specs.Knowing.{IsOfRun, Knows};
 ghost use Rattle.rx_activities.specs.Starting.{IsOpening, Comes};
 
 use crate::hand::{Hand, Journey, spend};

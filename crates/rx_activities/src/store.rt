@@ -8,7 +8,8 @@ ghost use Rattle.rx_book.specs.Passes.{view_of, word_of};
 ghost use Rattle.rx_book.specs.Calls.{Looked};
 ghost use Rattle.rx_finish.specs.declared.ledger.Caller.{Caller as Asker};
 ghost use Rattle.rx_ledger.specs.Answering.{asker};
-ghost use Rattle.rx_activities.specs.Knowing.{Knows, PlaceIs};
+ghost use Rattle.rx_objects.specs.Opened.{PlaceIs};
+ghost use Rattle.rx_activities.specs.Knowing.{Knows};
 ghost use Rattle.rx_activities.specs.Inside.Stepping.{IsNext};
 ghost use Rattle.rx_activities.specs.Inside.Answered.{PartsAre};
 

@@ -1,6 +1,7 @@
 // A turn of an activity, from local steps to what it leaves.
 ghost use Rattle.std.specs.Prelude.{◌≡◌};
-ghost use Rattle.rx_activities.specs.Knowing.{PlaceIs, Knows};
+ghost use Rattle.rx_objects.specs.Opened.{PlaceIs};
+ghost use Rattle.rx_activities.specs.Knowing.{Knows};
 ghost use Rattle.rx_activities.specs.Turning.{LeavesHand};
 
 use crate::activity::{Turn, activity_of, given_up};

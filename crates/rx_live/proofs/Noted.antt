@@ -16,7 +16,7 @@ use Rattle.rx_objects.specs.declared.ledger.LedgerFixed.{LedgerFixed}
 use Rattle.rx_objects.specs.declared.place.PlaceFixed.{PlaceFixed}
 use Rattle.rx_objects.specs.Noted.{Notes, IsOfPlace, AreOfPlaces}
 use Rattle.rx_objects.specs.Ending.{IsMet, MeetingShows}
-use Rattle.rx_activities.specs.Knowing.{PlaceIs}
+use Rattle.rx_objects.specs.Opened.{PlaceIs}
 use Rattle.rx_stations.specs.Stations.{PostName, AreFrom}
 use Rattle.rx_live.specs.Inside.Ending.{SeatsFrom, MeetsAt, none_dies, views_of}
 use Rattle.rx_stations.proofs.Stationing.{post_at}

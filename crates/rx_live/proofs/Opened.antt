@@ -9,9 +9,10 @@ use Rattle.rx_book.specs.Named.{BookName}
 use Rattle.rx_book.specs.Passes.{view_of, word_of}
 use Rattle.rx_parts.specs.declared.items.EventItem.{EventItem}
 use Rattle.rx_objects.specs.declared.ledger.LedgerFixed.{LedgerFixed}
+use Rattle.rx_objects.specs.Opened.{IsFirst}
 use Rattle.rx_activities.specs.Knowing.{IsNewSeat}
 use Rattle.rx_stations.specs.Stations.{PostName, AreFrom}
-use Rattle.rx_live.specs.Inside.Ending.{SeatsFrom, IsFirst}
+use Rattle.rx_live.specs.Inside.Ending.{SeatsFrom}
 
 -- a first caller's pass stays so where passes are split from it
 pub first_left : (L : BookName LedgerFixed) (p : ℕ) (s t : Pass EventItem) → IsFirst L p s → word_of t ≡ word_of s → view_of t ≡ parent_left (view_of s) → IsFirst L p t

@@ -3,8 +3,9 @@ ghost use Rattle.std.specs.Prelude.{◌≡◌, ◌≤◌, ◌<◌, true, false, 
 ghost use Rattle.rx_rules.specs.Run.{Proper};
 ghost use Rattle.rx_history.specs.Setups.{given};
 ghost use Rattle.rx_book.specs.Passes.{view_of, word_of};
-ghost use Rattle.rx_stations.specs.Stations.{AreFrom, IsPlaceBook};
-ghost use Rattle.rx_live.specs.Inside.Ending.{SeatsFrom, IsFirst, ArePlacesWith};
+ghost use Rattle.rx_objects.specs.Opened.{IsPlaceBook, IsFirst};
+ghost use Rattle.rx_stations.specs.Stations.{AreFrom};
+ghost use Rattle.rx_live.specs.Inside.Ending.{SeatsFrom, ArePlacesWith};
 
 use rx_activities::Naming;
 use rx_base::{Gate, PlaceId};
@@ -53,8 +54,7 @@ pub(crate) fn open_places<'a, N: Naming, G: Gate, R: Wait>(
     };
     'place: while let Some(word) = words.pop() {
         let place = PlaceId(words.len() as u8);
-        let around = LedgerAndGate { ledger, gate };
-        let Some((book, first)) = open_place(alloc, around, host, word, place, heap) else {
+        let Some((book, first)) = open_place(alloc, ledger, host, word, place, heap, gate) else {
             places.abandon(rt);
             return None;
         };

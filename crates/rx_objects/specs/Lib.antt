@@ -5,6 +5,7 @@ pub mod Noted
 pub mod Shown
 pub mod Ledger
 pub mod Place
+pub mod Opened
 pub mod Laws
 pub mod Ending
 pub mod Inside

@@ -1,5 +1,5 @@
 // The books of a run, before their first entries.
-ghost use Rattle.std.specs.Prelude.{◌≡◌, false, [], length, IfOk, IfSome};
+ghost use Rattle.std.specs.Prelude.{◌≡◌, false, [], length, IfOk, IfSome, Some, slice_get};
 ghost use Rattle.rx_rules.specs.Fold.{opening};
 ghost use Rattle.rx_rules.specs.Run.{Proper};
 ghost use Rattle.rx_history.specs.Setups.{given};
@@ -7,13 +7,14 @@ ghost use Rattle.rx_book.specs.Calls.{IsFresh};
 ghost use Rattle.rx_book.specs.Passes.{view_of, word_of};
 ghost use Rattle.rx_ledger.specs.Answering.{main_caller};
 ghost use Rattle.rx_objects.specs.Shown.{board_of, BoardShows};
+ghost use Rattle.rx_objects.specs.Opened.{IsPlaceBook, IsFirst};
 
 use crate::laws::objects_open;
 use crate::ledger::LedgerObject;
 use crate::place::PlaceObject;
 use crate::showing::end_board;
-use crate::surroundings::Surroundings;
-use rx_base::{NoMemory, PlaceId};
+use crate::surroundings::LedgerAndGate;
+use rx_base::{Gate, NoMemory, PlaceId};
 use rx_book::{BareBook, Book, Pass};
 use rx_check::Program;
 use rx_counts::CountLedger;
@@ -76,33 +77,33 @@ pub fn open_ledger<R: Wait>(
     }
 }
 
-/// The book of a place over its word, and the pass of its first caller. The host's pass of the ledger's book has seen nothing.
-/// `None` means out of memory.
-pub fn open_place<S: Surroundings>(
+/// The book of a place over its word, and the pass of its first caller. `None` means out of memory.
+pub fn open_place<'a, G: Gate>(
     alloc: Global,
-    surroundings: S,
+    ledger: &'a Book<LedgerObject>,
     host: &mut Pass<EntryItem>,
     word: BareBook<EventItem>,
     place: PlaceId,
     heap: u32,
-) -> Option<(Book<PlaceObject<S>>, Pass<EventItem>)>
-    requires own { word_of host.old ≡ (S.ledger surroundings).word }
+    gate: &'a G,
+) -> Option<(Book<PlaceObject<LedgerAndGate<'a, G>>>, Pass<EventItem>)>
+    requires own { word_of host.old ≡ ledger.now.word }
     requires unseen { ((view_of host.old).seen ≡ []) × ((view_of host.old).dead ≡ 0) }
-    requires proper { Proper (given (S.ledger surroundings).fixed.setup) }
+    requires proper { Proper (given ledger.now.fixed.setup) }
+    requires heap { heap ≡ ledger.now.fixed.setup.heap }
+    requires word { slice_get ledger.now.fixed.places place.0 ≡ Some word }
     ensures same { (word_of host.new ≡ word_of host.old) × (view_of host.new ≡ view_of host.old) }
-    ensures word { IfSome result (λ t. t.0.word ≡ word) }
-    ensures fixed { IfSome result (λ t. t.0.fixed ≡ record { place = place; words = heap; ledger = S.ledger surroundings }) }
-    ensures own { IfSome result (λ t. word_of t.1 ≡ t.0.word) }
-    ensures fresh { IfSome result (λ t. IsFresh (view_of t.1)) }
+    ensures book { IfSome result (λ t. IsPlaceBook ledger.now place t.0) }
+    ensures first { IfSome result (λ t. IsFirst ledger.now place.0 t.1) }
 {
     objects_open();
     let Ok(store) = Store::open(alloc, place, heap) else {
         return None;
     };
-    let Ok(note) = surroundings.book().note(host) else {
+    let Ok(note) = ledger.note(host) else {
         unreachable!()
     };
-    let object = PlaceObject::open(place, store, note, surroundings);
+    let object = PlaceObject::open(place, store, note, LedgerAndGate { ledger, gate });
     match Book::over(alloc, word, object) {
         Ok(both) => Some(both),
         Err(_) => None,

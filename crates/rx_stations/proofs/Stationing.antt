@@ -13,7 +13,8 @@ use Rattle.rx_objects.specs.declared.place.PlaceFixed.{PlaceFixed}
 use Rattle.rx_objects.specs.Ledger.{LedgerIsLegal}
 use Rattle.rx_objects.specs.Place.{shown}
 use Rattle.rx_objects.proofs.Places.{met_one}
-use Rattle.rx_activities.specs.Knowing.{PlaceIs, IsOfRun}
+use Rattle.rx_objects.specs.Opened.{PlaceIs}
+use Rattle.rx_activities.specs.Knowing.{IsOfRun}
 use Rattle.rx_stations.specs.Stations.{PostName, AreFrom}
 
 -- the i-th of them is of place p + i

@@ -6,8 +6,6 @@ use Rattle.rx_base.specs.declared.ids.PlaceId.{PlaceId}
 use Rattle.rx_check.specs.Checked.{Checked}
 use Rattle.rx_book.specs.Named.{BookName}
 use Rattle.rx_objects.specs.declared.ledger.LedgerFixed.{LedgerFixed}
-use Rattle.rx_objects.specs.declared.place.PlaceFixed.{PlaceFixed}
-use Rattle.rx_activities.specs.Knowing.{PlaceIs}
 
 -- a place, and its mailbox
 pub record PostName : Type 0 where
@@ -18,11 +16,6 @@ pub record PostName : Type 0 where
 abbrev pub AreFrom : ℕ → List PostName → Type 0
 AreFrom p [] = Unit {0}
 AreFrom p (s ∷ ss) = (s.place.0 ≡ p) × AreFrom (suc p) ss
-
--- the book is that of place p, round a store with as many words as the run's heaps have
-pub record IsPlaceBook (L : BookName LedgerFixed) (p : PlaceId) (b : BookName PlaceFixed) : Type 0 where
-  pub book : PlaceIs L p b
-  pub words : b.fixed.words ≡ L.fixed.setup.heap
 
 -- what workers share: the run's ledger and program, and each of its places
 pub record IsHall (L : BookName LedgerFixed) (ledger : BookName LedgerFixed) (p : Checked) (posts : List PostName) : Type 0 where

@@ -1,8 +1,8 @@
 // A place, as the workers share it.
 ghost use Rattle.std.specs.Prelude.{◌≡◌, Some, IfOk, IfSome, slice_get};
 ghost use Rattle.rx_book.specs.Passes.{view_of, word_of};
-ghost use Rattle.rx_activities.specs.Knowing.{PlaceIs, IsNewSeat};
-ghost use Rattle.rx_stations.specs.Stations.{IsPlaceBook};
+ghost use Rattle.rx_objects.specs.Opened.{PlaceIs, IsPlaceBook};
+ghost use Rattle.rx_activities.specs.Knowing.{IsNewSeat};
 ghost use Rattle.rx_stations.specs.Closed.{IsClosed};
 
 use crate::bed::Bed;
@@ -42,7 +42,8 @@ pub struct Station<N: Naming, P: PlaceBook> {
 
 impl<N: Naming, P: PlaceBook> Model for Station<N, P> {
     ghost use Rattle.std.specs.Prelude.{◌≡◌};
-    ghost use Rattle.rx_stations.specs.Stations.{PostName, IsPlaceBook};
+    ghost use Rattle.rx_objects.specs.Opened.{IsPlaceBook};
+    ghost use Rattle.rx_stations.specs.Stations.{PostName};
 
     ghost Value = { PostName };
 

@@ -28,6 +28,7 @@ use Rattle.rx_objects.specs.declared.ledger.LedgerFixed.{LedgerFixed}
 use Rattle.rx_objects.specs.Ledger.{LedgerIsLegal, is_root_done}
 use Rattle.rx_objects.specs.Noted.{Notes, AllNoted}
 use Rattle.rx_objects.specs.Ending.{IsHost, RootIsTold, SeesEnd, IsMet, EachEnds}
+use Rattle.rx_objects.specs.Opened.{IsFirst}
 use Rattle.rx_stations.specs.Stations.{PostName}
 use Rattle.rx_live.specs.declared.ending.Released.{Released}
 use Rattle.rx_live.specs.declared.ending.Released.TheVariants.{Done, NotYet, NoMemory}
@@ -44,12 +45,6 @@ SeatsFrom L p (s ∷ ss) = (slice_get L.fixed.places p ≡ Some (word_of s)) × 
 -- what they have seen
 abbrev pub views_of : List (Pass EventItem) → List (View EventItem)
 views_of seats = map view_of seats
-
--- a pass of the first caller of the book of place p, who has made and seen nothing
-pub record IsFirst (L : BookName LedgerFixed) (p : ℕ) (s : Pass EventItem) : Type 0 where
-  pub word : slice_get L.fixed.places p ≡ Some (word_of s)
-  pub number : (view_of s).number ≡ []
-  pub unseen : (view_of s).seen ≡ []
 
 -- place p was added in front of others: its station, the host's pass of its book, and the pass of that book's first caller
 pub record ArePlacesWith (L : BookName LedgerFixed) (p : ℕ) (stations : List PostName) (seats : List (Pass EventItem))

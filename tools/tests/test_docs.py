@@ -19,8 +19,9 @@ ENDINGS = "rt|antt|py|md|rx|trace|c|css|js|svg|txt|bash|json|edit"
 # Names of files that a page gives as what a reader may call his own, or that a command makes.
 OWN = {"first.py", "broken.rx", "supervisor.trace", "supervisor.html", "FILE.trace", "NAME.html", "NAME.trace", "both.trace", "both.html", "bench/gate.txt"}
 
-# Files of specs/ that no claim names: they say what a type keeps, or serve private functions.
-UNNAMED = {"rx_book/specs/Ties.antt", "rx_chronicle/specs/Keeping.antt", "rx_book/specs/Latched.antt",
+# Files of specs/ that no claim names: they say what a type keeps, serve private functions, or have the statements of lemmas.
+UNNAMED = {"rx_parts/specs/Merges.antt", "rx_parts/specs/Passes.antt", "rx_parts/specs/Reading.antt", "rx_parts/specs/Telling.antt",
+           "rx_book/specs/Ties.antt", "rx_chronicle/specs/Keeping.antt", "rx_book/specs/Latched.antt",
            "rx_machine/specs/Picking.antt", "rx_machine/specs/Slots.antt", "rx_rank/specs/Counts.antt", "rx_syntax/specs/Names.antt"}
 
 

@@ -14,11 +14,11 @@ use Rattle.rx_rules.proofs.Common.{cell_of}
 use Rattle.std.specs.List.{filter_map}
 use Rattle.std.proofs.lemmas.Bool.{ne_eqb}
 use Rattle.std.proofs.lemmas.List.Elements.{filter_map-append}
-use Rattle.rx_parts.proofs.Growing.{request-keeps, task-stays, seat-makes, call-keeps}
+use Rattle.rx_parts.proofs.Growing.{task-stays, seat-makes, call-keeps}
 use Rattle.rx_parts.specs.declared.items.EntryItem.{EntryItem}
 use Rattle.rx_parts.specs.declared.items.EventItem.{EventItem}
 use Rattle.rx_parts.specs.Histories.{ledger_item, ledger_items, made_event, made_events, cells_in}
-use Rattle.rx_parts.specs.Passes.{AskFits, TaskFits, CellsStay, CallFits, MetAlone}
+use Rattle.rx_parts.specs.Passes.{CellsStay, CallFits}
 
 -- nothing was added
 none_added : {X : Type 0} (xs ys : List X) → xs ++ ys ≡ xs → ys ≡ []
@@ -35,22 +35,6 @@ none_by c (x ∷ more) h = step (λ k. none_by c more k) (is_same x.by c) refl h
 -- where a longer history has no more entries of a caller, none of what is new is by it
 pub caller-is-alone : (c : List ℕ) (seen more : List (Stamped EntryItem)) → entries_by c (seen ++ more) ≡ entries_by c seen → NoneBy c (ledger_items more)
 caller-is-alone c seen more h = none_by c more (none_added (entries_by c seen) (entries_by c more) (sym (entries_by-append c seen more) ∙ h))
-
-pub ask-fits : AskFits
-ask-fits code U place v h t events batch d own begins short long ask =
-    let whole : v.seen ++ begins.prefix.0 ≡ h = begins.prefix.1 in
-    let alone : NoneBy v.number (ledger_items begins.prefix.0) = caller-is-alone v.number v.seen begins.prefix.0 (ap (entries_by v.number) whole ∙ sym begins.own ∙ own) in
-    let e : ledger_items h ≡ ledger_items v.seen ++ ledger_items begins.prefix.0 = ap ledger_items (sym whole) ∙ map-append ledger_item v.seen begins.prefix.0 in
-    (subst (λ (w : List LedgerItem). (l : LegalLedger code U w) → MayRequest l.actors (length h) v.number t events batch d) (sym e)
-    (λ l. request-keeps code U (ledger_items v.seen) (ledger_items begins.prefix.0) v.reach (length h) v.number t events batch d short l alone begins.long ask)) long
-
-pub task-fits : TaskFits
-task-fits code U place v h t a own begins short long got held =
-    let whole : v.seen ++ begins.prefix.0 ≡ h = begins.prefix.1 in
-    let alone : NoneBy v.number (ledger_items begins.prefix.0) = caller-is-alone v.number v.seen begins.prefix.0 (ap (entries_by v.number) whole ∙ sym begins.own ∙ own) in
-    let e : ledger_items h ≡ ledger_items v.seen ++ ledger_items begins.prefix.0 = ap ledger_items (sym whole) ∙ map-append ledger_item v.seen begins.prefix.0 in
-    (subst (λ (w : List LedgerItem). (l : LegalLedger code U w) → slice_get l.actors t ≡ Some a) (sym e)
-    (λ l. task-stays code U (ledger_items v.seen) (ledger_items begins.prefix.0) t a short l got (subst (λ (c : List ℕ). NoneBy c (ledger_items begins.prefix.0)) (sym held) alone))) long
 
 -- none of the events is of the task
 none_of : (c : List ℕ) (t : ℕ) (more : List (Stamped EventItem)) → entries_by c more ≡ [] → EachSeated t c (made_events more) → cells_in t more ≡ []
@@ -83,11 +67,3 @@ call-fits code U p place v k g more t mark path d own begins legal call long car
     let seats : EachSeated t.0 call.actor.seat (made_events k) = seat-makes code U p (g ++ more) (made_events k) t.0 call.actor long legal carried stands in
     let own_seats : EachSeated t.0 v.number (made_events k) = subst (λ (c : List ℕ). EachSeated t.0 c (made_events k)) (sym call.seated) seats in
     call-keeps code U p (journal_of (made_events v.seen)) (journal_of (made_events k)) g more v.number t mark path d call long alone (cells-stay place v k t.0 own begins own_seats)
-
-pub met-alone : MetAlone
-met-alone place v n w own met =
-    let whole : v.seen ++ met.ours.0 ≡ w.seen = met.ours.1 in (
-      ledger_items met.ours.0,
-      ap ledger_items (sym whole) ∙ map-append ledger_item v.seen met.ours.0,
-      caller-is-alone v.number v.seen met.ours.0 (ap (entries_by v.number) whole ∙ sym met.own ∙ met.mine ∙ own),
-    )

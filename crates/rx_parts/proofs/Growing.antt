@@ -17,7 +17,7 @@ use Rattle.rx_runs.proofs.Pushes.{plan-push}
 use Rattle.rx_parts.specs.Ledger.{LedgerItem, Actor, main_actor, ItemMakes, hosts, arrives, asks, ends, AllMake, RootIsLast, LegalLedger, entries_of}
 use mathlib.Core.List.{IsPrefix}
 use Rattle.rx_parts.specs.Places.{MadeEvent, event_of, journal_of, MayMake, LegalFrom, last_carried}
-use Rattle.rx_parts.specs.Growing.{LedgerOpens, LedgerGrows, OneAccount, NoneBy, TaskStays, OthersAct, NoneOf, EachBy, HolderActs, MayRequest, RequestKeeps, RequestMakes, EndMakes, ArrivalMakes, HostMakes}
+use Rattle.rx_parts.specs.Growing.{LedgerOpens, OneAccount, NoneBy, TaskStays, OthersAct, NoneOf, EachBy, HolderActs, MayRequest, RequestMakes, EndMakes, ArrivalMakes}
 use Rattle.rx_parts.specs.Reading.{is_of}
 use Rattle.rx_parts.specs.Closing.{StampedTo}
 use Rattle.rx_parts.specs.Calling.{AllHostItems, Grants, CallStep, HostStep, ArrivalStep, top_stamp, TopStamp, PlaceGrows, EachSeated, SeatMakes, CallKeeps, CallMakes}
@@ -31,29 +31,6 @@ use Rattle.rx_parts.proofs.Whole.{legal_later, seen_from}
 
 pub ledger-opens : LedgerOpens
 ledger-opens code U some few = record { folds = record { some = some; few = few; allowed = tt; plan = tt }; last = tt; actors = main_actor code U.places ∷ []; made = refl }
-
-pub entries_push : (h : List LedgerItem) (i : LedgerItem) → entries_of (h ++ i ∷ []) ≡ entries_of h ++ i.entry ∷ []
-entries_push [] i = refl
-entries_push (j ∷ h) i = ap (λ v. j.entry ∷ v) (entries_push h i)
-
-pub ledger-grows : LedgerGrows
-ledger-grows code U h i next legal free may time makes =
-    let es : List Entry = entries_of h in
-    let size : length (entries_of h) ≡ length h = length-map h (λ (j : LedgerItem). j.entry) in
-    let z : 0 + length (entries_of h) ≡ length h = omega (arith, size) in
-    let e : entries_of h ++ i.entry ∷ [] ≡ entries_of (h ++ i ∷ []) = sym (entries_push h i) in
-    let allowed : AllAllowed 0 (opening U.places) (entries_of h ++ i.entry ∷ []) = allowed-push 0 (opening U.places) (entries_of h) i.entry legal.folds.allowed may in
-    let plan = plan-push 0 (plan_of U) (entries_of h) i.entry legal.folds.plan (subst (λ (v : ℕ). InTime v (plan_left (plan_of U) (entries_of h)) i.entry) (sym z) time) in
-    let l : 0 + length h ≡ length h = omega arith in
-    let made : ItemMakes (0 + length h) legal.actors i next = subst (λ (v : ℕ). ItemMakes v legal.actors i next) (sym l) makes in (
-      record {
-        folds = record { some = legal.folds.some; few = legal.folds.few; allowed = subst (AllAllowed 0 (opening U.places)) e allowed; plan = subst (PlanKept 0 (plan_of U)) e plan };
-        last = subst RootIsLast e (root_last-push (entries_of h) i.entry free);
-        actors = next;
-        made = leads_join 0 (main_actor code U.places ∷ []) h (i ∷ []) legal.actors next legal.made (next, made, refl);
-      },
-      refl,
-    )
 
 pub one-account : OneAccount
 one-account code U h a b = leads_once 0 (main_actor code U.places ∷ []) h a.actors b.actors a.made b.made
@@ -122,20 +99,6 @@ others-act code U g more t a short long got o =
 at_most : (a b c : ℕ) → a ≤ b → b ≤ c → a ≤ c
 at_most a b c h k = omega arith
 
-pub request-keeps : RequestKeeps
-request-keeps code U g more n m by t events batch d short long o le ask =
-    record {
-      actor = ask.actor;
-      stands = task-stays code U g more t.0 ask.actor short long ask.stands (subst (λ (c : List ℕ). NoneBy c more) ask.held o);
-      held = ask.held;
-      here = ask.here;
-      stand = ask.stand;
-      walks = ask.walks;
-      in_time = at_most ask.stand.low n m ask.in_time le;
-      begun = ask.begun;
-      asks = ask.asks;
-    }
-
 pub request-makes : RequestMakes
 request-makes n actors t act batch d i is ask fits =
     (_, asks t act ask.actor ask.stand (is ∙ ap (Step t act) ask.begun) ask.stands ask.held ask.here ask.walks ask.in_time (subst (λ (v : Does). Fits ask.actor.birth.to ask.stand.term v act) (sym ask.asks) fits))
@@ -145,9 +108,6 @@ end-makes n actors t batch faults i is ask = (_, ends t faults ask.actor ask.sta
 
 pub arrival-makes : ArrivalMakes
 arrival-makes n actors t p a i is got held away none = (_, arrives t p a is got held away none)
-
-pub host-makes : HostMakes
-host-makes n actors i h = hosts h
 
 -- entries of the host leave the tasks
 pub hosts_lead : (n : ℕ) (actors : List Actor) (h : List LedgerItem) → AllHostItems h → AllMake n actors h actors

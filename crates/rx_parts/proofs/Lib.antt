@@ -8,7 +8,6 @@ pub mod Whole
 pub mod Growing
 pub mod Telling
 pub mod Prefixes
-pub mod Notes
 pub mod Closing
 pub mod Reading
 pub mod Fitting

@@ -14,7 +14,7 @@ use Rattle.rx_parts.specs.Ledger.{LedgerItem, Actor, Walks, stays, local, stores
 use Rattle.rx_parts.specs.Places.{MadeEvent, event_of, journal_of}
 use Rattle.rx_parts.specs.Closing.{StampedTo}
 use Rattle.rx_parts.specs.Growing.{NoneBy, MayRequest}
-use Rattle.rx_parts.specs.Telling.{IsCall, number_of, RequestTells, BirthTells, ArrivalTells, EndTells, EventTells, WalksJoin}
+use Rattle.rx_parts.specs.Telling.{IsCall, number_of, RequestTells, BirthTells, ArrivalTells, EventTells}
 use Rattle.rx_parts.proofs.Lists.{inside, got_set, got_left}
 use Rattle.rx_parts.proofs.Along.{Numbered, numbered, size_next}
 use Rattle.rx_parts.proofs.Determined.{makes_once, leads_once, leads_split}
@@ -26,9 +26,6 @@ pub walked : {here : PlaceId} {a b z : Stand} {cells more : Cells} → Walks her
 walked stays w = w
 walked (local e v) w = local e (walked v w)
 walked (stores answer le tells b v) w = stores answer le tells b (walked v w)
-
-pub walks-join : WalksJoin
-walks-join here a b z cells more v w = walked v w
 
 -- An event.
 
@@ -107,14 +104,6 @@ request-tells code U g between due i n t act batch d call is le ask fits =
     ap (λ v. slice_get v t.0) (after_request code U g between due i n t act batch d call is le ask fits at)
     ∙ got_left (slice_set at.actors t.0 (actor_granted (number_of g between due) i act ask.stand ask.actor)) (actors_born (number_of g between due) i act ask.stand) t.0 (omega (arith, size, low))
     ∙ got_set at.actors t.0 ask.actor (actor_granted (number_of g between due) i act ask.stand ask.actor) old
-
-pub end-tells : EndTells
-end-tells code U g between due i n t faults batch call is le ask =
-    let at = at_item code U g between due i call in
-    let old : slice_get at.actors t.0 ≡ Some ask.actor = at.kept t.0 ask.actor ask.stands ask.held in
-    let low : ask.stand.low ≤ number_of g between due = at_most ask.stand.low n (number_of g between due) ask.in_time (later_enough g between due n le) in
-    ap (λ v. slice_get v t.0) (makes_once at.item (ends t faults ask.actor ask.stand (is ∙ ap (Step t (End faults)) ask.begun) old ask.held ask.here ask.walks low ask.asks))
-    ∙ got_set at.actors t.0 ask.actor (actor_ended (number_of g between due) i faults ask.stand ask.actor) old
 
 pub arrival-tells : ArrivalTells
 arrival-tells code U g between due i t p a call is got held gone none =

@@ -24,13 +24,6 @@ LedgerOpens = (code : Block) (U : Given) → 1 ≤ U.places → U.places ≤ 16 
 abbrev pub PrefixLegal : Type 0
 PrefixLegal = (code : Block) (U : Given) (g h : List LedgerItem) → LegalLedger code U (g ++ h) → LegalLedger code U g
 
--- one item more leaves a legal history: its entry is allowed and in time, and it makes of the tasks what it says
-abbrev pub LedgerGrows : Type 0
-LedgerGrows = (code : Block) (U : Given) (h : List LedgerItem) (i : LedgerItem) (next : List Actor) → (legal : LegalLedger code U h)
-    → NoRoot (entries_of h) → Allowed (tree_of U.places (entries_of h)) i.entry
-    → InTime (length h) (plan_left (plan_of U) (entries_of h)) i.entry → ItemMakes (length h) legal.actors i next
-    → (more : LegalLedger code U (h ++ i ∷ [])) × (more.actors ≡ next)
-
 -- a history says one thing of its tasks
 abbrev pub OneAccount : Type 0
 OneAccount = (code : Block) (U : Given) (h : List LedgerItem) → (a b : LegalLedger code U h) → a.actors ≡ b.actors
@@ -81,13 +74,6 @@ pub record MayRequest (actors : List Actor) (n : ℕ) (by : List ℕ) (t : TaskI
   pub begun : batch ≡ stand.batch
   pub asks : does stand.vars actor.birth.to.0 stand.term ≡ d
 
--- A request that may be made may be made in each longer legal history in which its caller has appended nothing more. The number
--- may be a history's length, or that of any of its entries that no stamp is above.
-abbrev pub RequestKeeps : Type 0
-RequestKeeps = (code : Block) (U : Given) (g more : List LedgerItem) (n m : ℕ) (by : List ℕ) (t : TaskId) (events : Cells)
-    (batch : List (List ℕ)) (d : Does) → (short : LegalLedger code U g) → (long : LegalLedger code U (g ++ more))
-    → NoneBy by more → n ≤ m → MayRequest short.actors n by t events batch d → MayRequest long.actors m by t events batch d
-
 -- what grants such a request makes an item
 abbrev pub RequestMakes : Type 0
 RequestMakes = (n : ℕ) (actors : List Actor) (t : TaskId) (act : Act) (batch : List (List ℕ)) (d : Does) (i : LedgerItem)
@@ -105,7 +91,3 @@ abbrev pub ArrivalMakes : Type 0
 ArrivalMakes = (n : ℕ) (actors : List Actor) (t : TaskId) (p : PlaceId) (a : Actor) (i : LedgerItem)
     → i.entry ≡ Step t (Arrive p) [] → slice_get actors t.0 ≡ Some a → i.by ≡ a.holder → a.phase ≡ Away → i.events ≡ []
     → (next : List Actor) × ItemMakes n actors i next
-
--- and an entry of the host, which changes no task
-abbrev pub HostMakes : Type 0
-HostMakes = (n : ℕ) (actors : List Actor) (i : LedgerItem) → IsHostEntry i.entry → ItemMakes n actors i actors

@@ -6,7 +6,6 @@ pub mod Reading
 pub mod Growing
 pub mod Calling
 pub mod Telling
-pub mod Notes
 pub mod Merges
 pub mod Deaths
 pub mod Histories

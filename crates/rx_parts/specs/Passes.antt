@@ -22,22 +22,6 @@ use Rattle.rx_parts.specs.declared.items.EventItem.{EventItem}
 use Rattle.rx_parts.specs.Deaths.{place_shown}
 use Rattle.rx_parts.specs.Histories.{ledger_items, made_events, cells_in}
 
--- A request that a pass may make by what it has seen may be made in each legal history that begins with this and has just the
--- pass's entries. No stamp that the request names is above the number of entries that the pass knows of.
-abbrev pub AskFits : Type 0
-AskFits = (code : Block) (U : Given) (place : EntryItem → Option ℕ) (v : View EntryItem) (h : List (Stamped EntryItem))
-    (t : TaskId) (events : Cells) (batch : List (List ℕ)) (d : Does) → v.mine ≡ entries_by v.number v.seen → Begins place v h
-    → (short : LegalLedger code U (ledger_items v.seen)) → (long : LegalLedger code U (ledger_items h))
-    → MayRequest short.actors v.reach v.number t events batch d → MayRequest long.actors (length h) v.number t events batch d
-
--- What the history that a pass has seen says of a task that the pass's caller holds, each legal history says that begins with this
--- and has just the pass's entries.
-abbrev pub TaskFits : Type 0
-TaskFits = (code : Block) (U : Given) (place : EntryItem → Option ℕ) (v : View EntryItem) (h : List (Stamped EntryItem)) (t : ℕ)
-    (a : Actor) → v.mine ≡ entries_by v.number v.seen → Begins place v h → (short : LegalLedger code U (ledger_items v.seen))
-    → (long : LegalLedger code U (ledger_items h)) → slice_get short.actors t ≡ Some a → a.holder ≡ v.number
-    → slice_get long.actors t ≡ Some a
-
 -- In each history of a place's book that begins with what the pass of a task has seen and has just its entries, the task's events
 -- are those that the pass has seen.
 abbrev pub CellsStay : Type 0
@@ -55,11 +39,6 @@ CallFits = (code : Block) (U : Given) (p : ℕ) (place : EventItem → Option �
     → (call : MayCallStore code U p (journal_of (made_events v.seen)) g v.number t mark path d)
     → LegalLedger code U (g ++ more) → IsPrefix (seen_by (made_events k)) (g ++ more) → NoneBy call.actor.holder more
     → MayCallStore code U p (journal_of (made_events k)) (g ++ more) v.number t mark path d
-
--- What a pass of the ledger's book has seen after it met a note begins with what it had seen, and nothing of what is new is by it.
-abbrev pub MetAlone : Type 0
-MetAlone = (place : EntryItem → Option ℕ) (v n w : View EntryItem) → v.mine ≡ entries_by v.number v.seen → Met place v n w
-    → (more : List LedgerItem) × (ledger_items w.seen ≡ ledger_items v.seen ++ more) × NoneBy v.number more
 
 -- A pass met a note that knows of no death of place p, and has then seen as many entries as the note knows of; what it has seen
 -- begins the whole history h. So where no stamp of the place is above the number of these entries, none is above the number of

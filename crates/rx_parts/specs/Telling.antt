@@ -53,14 +53,6 @@ ArrivalTells = (code : Block) (U : Given) (g between due : List LedgerItem) (i :
     → slice_get call.short.actors t.0 ≡ Some a → i.by ≡ a.holder → a.phase ≡ Away → i.events ≡ []
     → slice_get call.long.actors t.0 ≡ Some (actor_arrived (number_of g between due) i p a)
 
--- after its end a task is over
-abbrev pub EndTells : Type 0
-EndTells = (code : Block) (U : Given) (g between due : List LedgerItem) (i : LedgerItem) (n : ℕ) (t : TaskId)
-    (faults : List Fault) (batch : List (List ℕ)) → (call : IsCall code U g between due i)
-    → i.entry ≡ Step t (End faults) batch → n ≤ length (g ++ between)
-    → (ask : MayRequest call.short.actors n i.by t i.events batch (Done faults))
-    → slice_get call.long.actors t.0 ≡ Some (actor_ended (number_of g between due) i faults ask.stand ask.actor)
-
 -- After the store's answer to a call that may be made, the task's events at its place are those of before and the new one, and its
 -- term has gone on by the answer.
 abbrev pub EventTells : Type 0
@@ -76,8 +68,3 @@ EventTells = (code : Block) (U : Given) (p : ℕ) (k : List MadeEvent) (g : List
       term = answered answer call.stand.term;
       batch = begun call.stand.term call.stand.batch;
     })
-
--- walks are made one after another
-abbrev pub WalksJoin : Type 0
-WalksJoin = (here : PlaceId) (a b z : Stand) (cells more : Cells) → Walks here a cells b → Walks here b more z
-    → Walks here a (cells ++ more) z

@@ -21,7 +21,7 @@ import time
 HERE = pathlib.Path(__file__).resolve().parent
 TOP = HERE.parent
 # The parts of hostile use, those of a row one after the other: a process compiles what it needs first, so there are few.
-HOSTILE = ["verdicts deaths tables fronts coordinator".split(), "memory outside limits sizes fuzz".split()]
+HOSTILE = ["verdicts deaths tables fronts coordinator".split(), "memory outside limits sizes bed jitter fuzz".split()]
 # The seconds of mutated inputs, and two hundred damaged traces for each.
 SECONDS = 10
 # Tests that take longest, so that they are begun first.

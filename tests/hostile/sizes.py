@@ -229,7 +229,7 @@ def script_limit(program, text, refusal):
 
 def workers_at_work(program, workers, watch):
     """Each worker makes turns, where there are as many tasks with long turns: each thread that makes some takes memory for them."""
-    text = b"finish{repeat 8{async{repeat 20{repeat 80{set x = 1;} print x;}}}}"
+    text = b"finish{repeat 8{async{set x = 0;repeat 20{repeat 80{set x = 1;}print x;}}}}"
     words = ["live", "--workers", str(workers), *(["--watch", "1000"] if watch else [])]
     wanted, seen = workers + (1 if watch else 0), []
     for _ in range(20):

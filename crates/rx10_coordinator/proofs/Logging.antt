@@ -8,7 +8,7 @@ use Rattle.rx_rules.specs.declared.entries.Entry.{Entry}
 use Rattle.rx10_coordinator.specs.declared.log.Log.{Log}
 use Rattle.rx_lines.specs.declared.output.Pending.{Pending}
 use Rattle.rx_lines.specs.Stated.{log_lines}
-use Rattle.rx_lines.specs.Inside.Telling.{Tells, IsLeft}
+use Rattle.rx_lines.specs.Inside.Telling.{TextIsTold, IsLeft}
 use Rattle.rx10_coordinator.specs.Inside.Logging.{IsLogged, IsTorn, IsCut, IsWritten, OrElse}
 use Rattle.rx_lines.proofs.Telling.{rose-on}
 use Rattle.rx_lines.proofs.LogLines.{lines-on}
@@ -31,13 +31,13 @@ pub left-rose : (b : Bool) (f g : ℕ) (rest text : List ℕ) → b ≡ true →
 left-rose true f g rest text e h = h.0
 left-rose false f g rest text e h = cc
 
-pub all-written : (w : Option (List ℕ)) (f : ℕ) (v : Option (List ℕ)) (g : ℕ) (l : Log) (text : List ℕ) → l.pending.is_failed ≡ false → l.pending.text.items ≡ [] → Tells w f v g l.pending text → IsWritten w f v g l text
+pub all-written : (w : Option (List ℕ)) (f : ℕ) (v : Option (List ℕ)) (g : ℕ) (l : Log) (text : List ℕ) → l.pending.is_failed ≡ false → l.pending.text.items ≡ [] → TextIsTold w f v g l.pending text → IsWritten w f v g l text
 all-written w f v g l text ok none t =
     let rest : t.rest ≡ [] = left-whole l.pending.is_failed f g t.rest l.pending.text.items ok none t.left in
     let all : text ≡ t.sent = t.all ∙ (ap (λ z. t.sent ++ z) rest ∙ append-nil t.sent) in
     record { wrote = subst (Appends w v) (sym all) t.wrote; later = t.later; none = none; whole = ok }
 
-pub all-cut : (w : Option (List ℕ)) (f : ℕ) (v : Option (List ℕ)) (g : ℕ) (t : Pending) (text : List ℕ) → t.is_failed ≡ true → Tells w f v g t text → IsCut w f v g text
+pub all-cut : (w : Option (List ℕ)) (f : ℕ) (v : Option (List ℕ)) (g : ℕ) (t : Pending) (text : List ℕ) → t.is_failed ≡ true → TextIsTold w f v g t text → IsCut w f v g text
 all-cut w f v g t text fails h =
     record { part = h.sent; left = h.rest; all = h.all; wrote = h.wrote; rose = left-rose t.is_failed f g h.rest t.text.items fails h.left }
 

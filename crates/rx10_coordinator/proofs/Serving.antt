@@ -11,20 +11,20 @@ use Rattle.rx_lines.specs.declared.output.Pending.{Pending}
 use Rattle.rx10_coordinator.specs.declared.received.Received.{Received}
 use Rattle.rx10_coordinator.specs.declared.status.Status.{Status}
 use Rattle.rx10_coordinator.specs.declared.status.Status.TheVariants.{Done, ReadFault, WriteFault, LogFault}
-use Rattle.rx_lines.specs.Session.{Between, IsOpen, Answered, greeting}
+use Rattle.rx_lines.specs.Session.{Between, IsOpen, LineAnswered, greeting}
 use Rattle.rx10_coordinator.specs.Serving.{Served}
 use Rattle.rx_lines.specs.Stated.{log_lines}
 use Rattle.rx10_coordinator.specs.Log.{Logged, HasFailed}
-use Rattle.rx_lines.specs.Inside.Telling.{Tells, IsLeft, Puts}
+use Rattle.rx_lines.specs.Inside.Telling.{TextIsTold, IsLeft, Puts}
 use Rattle.rx10_coordinator.specs.Inside.Logging.{IsLogged, IsTorn}
-use Rattle.rx10_coordinator.specs.Inside.Desk.{Holds, Serves, Breaks, IsLine}
+use Rattle.rx10_coordinator.specs.Inside.Desk.{DeskInvariant, LinesAnswered, Breaks, IsLine}
 use Rattle.rx_lines.proofs.Telling.{without, joined}
 use Rattle.rx10_coordinator.proofs.Cutting.{line-ends}
 use Rattle.rx10_coordinator.proofs.Going.{answers-more}
 use Rattle.rx10_coordinator.proofs.Logging.{left-whole, left-rose}
 
 -- nothing was told so far
-pub tells-none : (w : Option (List ℕ)) (f : ℕ) (t : Pending) → t.text.items ≡ [] → t.is_failed ≡ false → Tells w f w f t []
+pub tells-none : (w : Option (List ℕ)) (f : ℕ) (t : Pending) → t.text.items ≡ [] → t.is_failed ≡ false → TextIsTold w f w f t []
 tells-none w f t none whole =
     record { sent = []; rest = []; later = refl-le f; wrote = Appends-nil w; all = refl; left = is-left t.is_failed f [] t.text.items whole (sym none) } where
       refl-le : (n : ℕ) → n ≤ n
@@ -35,7 +35,7 @@ tells-none w f t none whole =
       is-left true g rest text e same = cc
 
 -- the greeting is told
-pub opened : (p : ℕ) (w : Option (List ℕ)) (f : ℕ) (v : Option (List ℕ)) (g : ℕ) (x : Option (List ℕ)) (h : ℕ) (b : Between) (k : Parking) (l : Log) (d : Desk) (r : Received) → IsOpen b → Holds p b k → d.parking ≡ k → d.log ≡ l → IsLogged x h x h l [] → IsLine r [] → Tells w f v g d.pending (greeting p) → Serves p w f v g x h x h d r []
+pub opened : (p : ℕ) (w : Option (List ℕ)) (f : ℕ) (v : Option (List ℕ)) (g : ℕ) (x : Option (List ℕ)) (h : ℕ) (b : Between) (k : Parking) (l : Log) (d : Desk) (r : Received) → IsOpen b → DeskInvariant p b k → d.parking ≡ k → d.log ≡ l → IsLogged x h x h l [] → IsLine r [] → TextIsTold w f v g d.pending (greeting p) → LinesAnswered p w f v g x h x h d r []
 opened p w f v g x h b k l d r opens holds same kept log line told =
     record {
       lines = [];
@@ -46,14 +46,14 @@ opened p w f v g x h b k l d r opens holds same kept log line told =
       cut = refl;
       opens = opens;
       answered = (refl, refl);
-      holds = subst (Holds p b) (sym same) holds;
+      holds = subst (DeskInvariant p b) (sym same) holds;
       reads = line;
-      tells = subst (λ (z : List ℕ). Tells w f v g d.pending z) (sym (append-nil (greeting p))) told;
+      tells = subst (λ (z : List ℕ). TextIsTold w f v g d.pending z) (sym (append-nil (greeting p))) told;
       logged = subst (λ (es : List Entry). IsLogged x h x h d.log es) (sym opens.entries) (subst (λ (m : Log). IsLogged x h x h m []) (sym kept) log);
     }
 
 -- what is told is written
-pub wrote : (p : ℕ) (w : Option (List ℕ)) (f : ℕ) (v u : Option (List ℕ)) (g k : ℕ) (x : Option (List ℕ)) (h : ℕ) (y : Option (List ℕ)) (i : ℕ) (d e : Desk) (r : Received) (bytes : List ℕ) → e.parking ≡ d.parking → e.log ≡ d.log → ((text : List ℕ) → Tells w f v g d.pending text → Tells w f u k e.pending (text ++ [])) → Serves p w f v g x h y i d r bytes → Serves p w f u k x h y i e r bytes
+pub wrote : (p : ℕ) (w : Option (List ℕ)) (f : ℕ) (v u : Option (List ℕ)) (g k : ℕ) (x : Option (List ℕ)) (h : ℕ) (y : Option (List ℕ)) (i : ℕ) (d e : Desk) (r : Received) (bytes : List ℕ) → e.parking ≡ d.parking → e.log ≡ d.log → ((text : List ℕ) → TextIsTold w f v g d.pending text → TextIsTold w f u k e.pending (text ++ [])) → LinesAnswered p w f v g x h y i d r bytes → LinesAnswered p w f u k x h y i e r bytes
 wrote p w f v u g k x h y i d e r bytes same kept told s =
     record {
       lines = s.lines;
@@ -64,7 +64,7 @@ wrote p w f v u g k x h y i d e r bytes same kept told s =
       cut = s.cut;
       opens = s.opens;
       answered = s.answered;
-      holds = subst (Holds p s.after) (sym same) s.holds;
+      holds = subst (DeskInvariant p s.after) (sym same) s.holds;
       reads = s.reads;
       tells = without w f u k e.pending (greeting p ++ s.replies) (told (greeting p ++ s.replies) s.tells);
       logged = subst (λ (l : Log). IsLogged x h y i l s.after.entries) (sym kept) s.logged;
@@ -72,7 +72,7 @@ wrote p w f v u g k x h y i d e r bytes same kept told s =
 
 module _ (p : ℕ) (w : Option (List ℕ)) (f : ℕ) (v : Option (List ℕ)) (g : ℕ) (x : Option (List ℕ)) (h : ℕ) (y : Option (List ℕ)) (i : ℕ) (d : Desk) (r : Received) (bytes : List ℕ) (old new : Option (List ℕ)) where
   -- all that was read was heard
-  heard : (status : Status) (s : Serves p w f v g x h y i d r bytes) → Consumes old new bytes → (status ≡ LogFault → ⊥) → (status ≡ WriteFault → Rose f g) → (s.tells.rest ≡ []) ⊎ HasFailed f g status → (status ≡ Done → IsAtEnd new ⊎ (2 ^ 64 - 1 ≤ length bytes)) → Logged p old new w v x y f g h i status
+  heard : (status : Status) (s : LinesAnswered p w f v g x h y i d r bytes) → Consumes old new bytes → (status ≡ LogFault → ⊥) → (status ≡ WriteFault → Rose f g) → (s.tells.rest ≡ []) ⊎ HasFailed f g status → (status ≡ Done → IsAtEnd new ⊎ (2 ^ 64 - 1 ≤ length bytes)) → Logged p old new w v x y f g h i status
   heard status s took apart fails whole over =
       record {
         heard = bytes;
@@ -96,16 +96,16 @@ module _ (p : ℕ) (w : Option (List ℕ)) (f : ℕ) (v : Option (List ℕ)) (g 
         over = over;
       }
 
-  pub served : (status : Status) → (status ≡ LogFault → ⊥) → (status ≡ WriteFault → ⊥) → d.pending.is_failed ≡ false → d.pending.text.items ≡ [] → Consumes old new bytes → (status ≡ Done → IsAtEnd new ⊎ (2 ^ 64 - 1 ≤ length bytes)) → Serves p w f v g x h y i d r bytes → Logged p old new w v x y f g h i status
+  pub served : (status : Status) → (status ≡ LogFault → ⊥) → (status ≡ WriteFault → ⊥) → d.pending.is_failed ≡ false → d.pending.text.items ≡ [] → Consumes old new bytes → (status ≡ Done → IsAtEnd new ⊎ (2 ^ 64 - 1 ≤ length bytes)) → LinesAnswered p w f v g x h y i d r bytes → Logged p old new w v x y f g h i status
   served status apart other ok none took over s = heard status s took apart (λ e. absurd (other e)) (inl (left-whole d.pending.is_failed f g s.tells.rest d.pending.text.items ok none s.tells.left)) over
 
-  pub unwritten : d.pending.is_failed ≡ true → Consumes old new bytes → Serves p w f v g x h y i d r bytes → Logged p old new w v x y f g h i WriteFault
+  pub unwritten : d.pending.is_failed ≡ true → Consumes old new bytes → LinesAnswered p w f v g x h y i d r bytes → Logged p old new w v x y f g h i WriteFault
   unwritten fails took s =
       let rose = left-rose d.pending.is_failed f g s.tells.rest d.pending.text.items fails s.tells.left in
       heard WriteFault s took (λ e. (let n : ⊥ = cc in n)) (λ _. rose) (inr (inl refl, rose)) (λ e. absurd (let n : ⊥ = cc in n))
 
 -- a write to the log has failed, and the replies so far are written or not
-pub broken : (p : ℕ) (w : Option (List ℕ)) (f : ℕ) (v u : Option (List ℕ)) (g k : ℕ) (x : Option (List ℕ)) (h : ℕ) (y : Option (List ℕ)) (i : ℕ) (d e : Desk) (bytes : List ℕ) (old new : Option (List ℕ)) → e.pending.text.items ≡ [] → ((text : List ℕ) → Tells w f v g d.pending text → Tells w f u k e.pending (text ++ [])) → Consumes old new bytes → Breaks p w f v g x h y i d bytes → Logged p old new w u x y f k h i LogFault
+pub broken : (p : ℕ) (w : Option (List ℕ)) (f : ℕ) (v u : Option (List ℕ)) (g k : ℕ) (x : Option (List ℕ)) (h : ℕ) (y : Option (List ℕ)) (i : ℕ) (d e : Desk) (bytes : List ℕ) (old new : Option (List ℕ)) → e.pending.text.items ≡ [] → ((text : List ℕ) → TextIsTold w f v g d.pending text → TextIsTold w f u k e.pending (text ++ [])) → Consumes old new bytes → Breaks p w f v g x h y i d bytes → Logged p old new w u x y f k h i LogFault
 broken p w f v u g k x h y i d e bytes old new none told took s =
     let text = greeting p ++ s.replies in
     let t = without w f u k e.pending text (told text s.tells) in
@@ -172,8 +172,8 @@ unlogged p old new w v y f g status s =
       by (inl e) = inr e
       by (inr e) = absurd (none e)
 
-pub given-as : (p : ℕ) (w : Option (List ℕ)) (f : ℕ) (v : Option (List ℕ)) (g : ℕ) (x : Option (List ℕ)) (h : ℕ) (y : Option (List ℕ)) (i : ℕ) (d : Desk) (r : Received) (bytes other : List ℕ) → bytes ≡ other → Serves p w f v g x h y i d r bytes → Serves p w f v g x h y i d r other
-given-as p w f v g x h y i d r bytes other e s = subst (Serves p w f v g x h y i d r) e s
+pub given-as : (p : ℕ) (w : Option (List ℕ)) (f : ℕ) (v : Option (List ℕ)) (g : ℕ) (x : Option (List ℕ)) (h : ℕ) (y : Option (List ℕ)) (i : ℕ) (d : Desk) (r : Received) (bytes other : List ℕ) → bytes ≡ other → LinesAnswered p w f v g x h y i d r bytes → LinesAnswered p w f v g x h y i d r other
+given-as p w f v g x h y i d r bytes other e s = subst (LinesAnswered p w f v g x h y i d r) e s
 
 -- more bytes came, and none of them was heard
 pub unheard : (p : ℕ) (w : Option (List ℕ)) (f : ℕ) (v : Option (List ℕ)) (g : ℕ) (x : Option (List ℕ)) (h : ℕ) (y : Option (List ℕ)) (i : ℕ) (d : Desk) (bytes more all : List ℕ) → all ≡ bytes ++ more → Breaks p w f v g x h y i d bytes → Breaks p w f v g x h y i d all
@@ -195,9 +195,9 @@ unheard p w f v g x h y i d bytes more all e s =
     }
 
 -- a write to the log has failed in the entries of a line, or in those of a release that it made possible
-pub broke_off : {K : Type 0} (written : K → Option (List ℕ)) (faults : K → ℕ) (o n : K) (p : ℕ) (w : Option (List ℕ)) (f : ℕ) (x : Option (List ℕ)) (h : ℕ) (y : Option (List ℕ)) (i : ℕ) (z : Option (List ℕ)) (j : ℕ) (d e : Desk) (r : Received) (given : List ℕ) (byte : ℕ) → byte ≡ 10 → (s : Serves p w f (written o) (faults o) x h y i d r given)
+pub broke_off : {K : Type 0} (written : K → Option (List ℕ)) (faults : K → ℕ) (o n : K) (p : ℕ) (w : Option (List ℕ)) (f : ℕ) (x : Option (List ℕ)) (h : ℕ) (y : Option (List ℕ)) (i : ℕ) (z : Option (List ℕ)) (j : ℕ) (d e : Desk) (r : Received) (given : List ℕ) (byte : ℕ) → byte ≡ 10 → (s : LinesAnswered p w f (written o) (faults o) x h y i d r given)
     → ((IsTorn x h z j s.after.entries × Puts written faults o d.pending n e.pending [])
-    ⊎ ((c : Between) × (text : List ℕ) × Answered p s.after s.last text c × IsTorn x h z j c.entries × Puts written faults o d.pending n e.pending text))
+    ⊎ ((c : Between) × (text : List ℕ) × LineAnswered p s.after s.last text c × IsTorn x h z j c.entries × Puts written faults o d.pending n e.pending text))
     → Breaks p w f (written n) (faults n) x h z j e (given ++ byte ∷ [])
 broke_off written faults o n p w f x h y i z j d e r given byte ends s (inl k) =
     record {

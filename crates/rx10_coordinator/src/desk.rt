@@ -8,11 +8,11 @@ ghost use Rattle.rx_coordinator.specs.declared.waiters.Waiter.{Waiter};
 ghost use Rattle.rx_coordinator.specs.Telling.{seat_told};
 ghost use Rattle.rx_coordinator.specs.Parking.{Parks};
 ghost use Rattle.rx_lines.specs.Replies.{answer_line};
-ghost use Rattle.rx_lines.specs.Session.{Between, IsOpen, Asks, FreesAll, Answered, request_in, freed_lines, greeting};
+ghost use Rattle.rx_lines.specs.Session.{Between, IsOpen, RequestIsAnswered, FreesAll, LineAnswered, request_in, freed_lines, greeting};
 ghost use Rattle.rx_lines.specs.Inside.Telling.{Puts};
 ghost use Rattle.rx_lines.specs.Inside.Noting.{asker as asks, note_of, entries_of};
 ghost use Rattle.rx10_coordinator.specs.Inside.Logging.{IsLogged, IsTorn, OrElse};
-ghost use Rattle.rx10_coordinator.specs.Inside.Desk.{Holds, IsLine};
+ghost use Rattle.rx10_coordinator.specs.Inside.Desk.{DeskInvariant, IsLine};
 
 use crate::log::Log;
 use crate::received::Received;
@@ -34,7 +34,7 @@ impl Desk {
     /// A desk of so many places. Nothing was asked, and nothing is told.
     pub(crate) fn open(alloc: Global, places: u8, log: Log) -> Result<Desk, NoMemory>
         requires { (1 ≤ places) × (places ≤ 16) }
-        ensures open { IfOk result (λ d. (b : Between) × IsOpen b × Holds places b d.parking) }
+        ensures open { IfOk result (λ d. (b : Between) × IsOpen b × DeskInvariant places b d.parking) }
         ensures text { IfOk result (λ d. d.pending.text.items ≡ []) }
         ensures whole { IfOk result (λ d. d.pending.is_failed ≡ false) }
         ensures log { IfOk result (λ d. d.log ≡ log) }
@@ -66,17 +66,17 @@ impl Desk {
         log: &mut L,
         line: &Received,
     ) -> Result<(), Failed>
-        requires { (p : ℕ) × (b : Between) × Holds p b self.old.parking }
+        requires { (p : ℕ) × (b : Between) × DeskInvariant p b self.old.parking }
         ensures { (p : ℕ) (b : Between) (bytes : List ℕ) (x : Option (List ℕ)) (h : ℕ)
-            → Holds p b self.old.parking → IsLine line.now bytes
+            → DeskInvariant p b self.old.parking → IsLine line.now bytes
             → IsLogged x h (L.written log.old) (L.faults log.old) self.old.log b.entries
             → OrElse result
-            ((c : Between) × (text : List ℕ) × Answered p b bytes text c × Holds p c self.new.parking
+            ((c : Between) × (text : List ℕ) × LineAnswered p b bytes text c × DeskInvariant p c self.new.parking
             × IsLogged x h (L.written log.new) (L.faults log.new) self.new.log c.entries
             × Puts K.written K.faults out.old self.old.pending out.new self.new.pending text)
             ((IsTorn x h (L.written log.new) (L.faults log.new) b.entries
             × Puts K.written K.faults out.old self.old.pending out.new self.new.pending [])
-            ⊎ ((c : Between) × (text : List ℕ) × Answered p b bytes text c
+            ⊎ ((c : Between) × (text : List ℕ) × LineAnswered p b bytes text c
             × IsTorn x h (L.written log.new) (L.faults log.new) c.entries
             × Puts K.written K.faults out.old self.old.pending out.new self.new.pending text)) }
     {
@@ -100,16 +100,16 @@ impl Desk {
         log: &mut L,
         request: Request,
     ) -> Result<(), Failed>
-        requires { (p : ℕ) × (b : Between) × Holds p b self.old.parking }
-        ensures { (p : ℕ) (b : Between) (bytes : List ℕ) (x : Option (List ℕ)) (h : ℕ) → Holds p b self.old.parking
+        requires { (p : ℕ) × (b : Between) × DeskInvariant p b self.old.parking }
+        ensures { (p : ℕ) (b : Between) (bytes : List ℕ) (x : Option (List ℕ)) (h : ℕ) → DeskInvariant p b self.old.parking
             → request_in bytes ≡ Some request → IsLogged x h (L.written log.old) (L.faults log.old) self.old.log b.entries
             → OrElse result
-            ((c : Between) × (text : List ℕ) × Answered p b bytes text c × Holds p c self.new.parking
+            ((c : Between) × (text : List ℕ) × LineAnswered p b bytes text c × DeskInvariant p c self.new.parking
             × IsLogged x h (L.written log.new) (L.faults log.new) self.new.log c.entries
             × Puts K.written K.faults out.old self.old.pending out.new self.new.pending text)
             ((IsTorn x h (L.written log.new) (L.faults log.new) b.entries
             × Puts K.written K.faults out.old self.old.pending out.new self.new.pending [])
-            ⊎ ((c : Between) × (text : List ℕ) × Answered p b bytes text c
+            ⊎ ((c : Between) × (text : List ℕ) × LineAnswered p b bytes text c
             × IsTorn x h (L.written log.new) (L.faults log.new) c.entries
             × Puts K.written K.faults out.old self.old.pending out.new self.new.pending text)) }
     {
@@ -142,17 +142,19 @@ impl Desk {
         request: Request,
         note: &Note,
     ) -> Result<(), Failed>
-        requires { (p : ℕ) × (b : Between) × Holds p b self.old.parking }
-        ensures { (p : ℕ) (b : Between) (x : Option (List ℕ)) (h : ℕ) → Holds p b self.old.parking
+        requires { (p : ℕ) × (b : Between) × DeskInvariant p b self.old.parking }
+        ensures { (p : ℕ) (b : Between) (x : Option (List ℕ)) (h : ℕ) → DeskInvariant p b self.old.parking
             → (self.old.log.is_kept ≡ true → note.now ≡ note_of (seat_told (tree_of p b.entries) (asks request)) request)
             → IsLogged x h (L.written log.old) (L.faults log.old) self.old.log b.entries
             → OrElse result
-            ((a : Said) × (m : Between) × (xs : List (Waiter × Told)) × (c : Between) × Asks p b request a m × FreesAll p m xs c
-            × Holds p c self.new.parking × IsLogged x h (L.written log.new) (L.faults log.new) self.new.log c.entries
+            ((a : Said) × (m : Between) × (xs : List (Waiter × Told)) × (c : Between) × RequestIsAnswered p b request a m
+            × FreesAll p m xs c
+            × DeskInvariant p c self.new.parking × IsLogged x h (L.written log.new) (L.faults log.new) self.new.log c.entries
             × Puts K.written K.faults out.old self.old.pending out.new self.new.pending (answer_line a ++ freed_lines xs))
             ((IsTorn x h (L.written log.new) (L.faults log.new) b.entries
             × Puts K.written K.faults out.old self.old.pending out.new self.new.pending [])
-            ⊎ ((a : Said) × (m : Between) × (xs : List (Waiter × Told)) × (c : Between) × Asks p b request a m × FreesAll p m xs c
+            ⊎ ((a : Said) × (m : Between) × (xs : List (Waiter × Told)) × (c : Between) × RequestIsAnswered p b request a m
+            × FreesAll p m xs c
             × IsTorn x h (L.written log.new) (L.faults log.new) c.entries
             × Puts K.written K.faults out.old self.old.pending out.new self.new.pending (answer_line a ++ freed_lines xs))) }
     {
@@ -170,14 +172,14 @@ impl Desk {
         note: &Note,
         answer: &Answer,
     ) -> Result<(), Failed>
-        requires { (p : ℕ) × (m : Between) × Holds p m self.old.parking }
+        requires { (p : ℕ) × (m : Between) × DeskInvariant p m self.old.parking }
         ensures { (p : ℕ) (es : List Entry) (m : Between) (x : Option (List ℕ)) (h : ℕ)
-            → Holds p m self.old.parking → n ≡ length es
+            → DeskInvariant p m self.old.parking → n ≡ length es
             → (self.old.log.is_kept ≡ true → es ++ entries_of note.now answer.now ≡ m.entries)
             → IsLogged x h (L.written log.old) (L.faults log.old) self.old.log es
             → OrElse result
             ((xs : List (Waiter × Told)) × (c : Between) × FreesAll p m xs c
-            × Holds p c self.new.parking × IsLogged x h (L.written log.new) (L.faults log.new) self.new.log c.entries
+            × DeskInvariant p c self.new.parking × IsLogged x h (L.written log.new) (L.faults log.new) self.new.log c.entries
             × Puts K.written K.faults out.old self.old.pending out.new self.new.pending (answer_line answer.now ++ freed_lines xs))
             ((IsTorn x h (L.written log.new) (L.faults log.new) es
             × Puts K.written K.faults out.old self.old.pending out.new self.new.pending [])
@@ -196,12 +198,12 @@ impl Desk {
 
     // Answers the releases that wait and are possible now, each after the line of its entry was written.
     fn free<K: Sink, L: Sink>(&mut self, out: &mut K, log: &mut L) -> Result<(), Failed>
-        requires { (p : ℕ) × (b : Between) × Holds p b self.old.parking }
-        ensures { (p : ℕ) (b : Between) (x : Option (List ℕ)) (h : ℕ) → Holds p b self.old.parking
+        requires { (p : ℕ) × (b : Between) × DeskInvariant p b self.old.parking }
+        ensures { (p : ℕ) (b : Between) (x : Option (List ℕ)) (h : ℕ) → DeskInvariant p b self.old.parking
             → IsLogged x h (L.written log.old) (L.faults log.old) self.old.log b.entries
             → (xs : List (Waiter × Told)) × (c : Between) × FreesAll p b xs c
             × OrElse result
-            (Holds p c self.new.parking × IsLogged x h (L.written log.new) (L.faults log.new) self.new.log c.entries)
+            (DeskInvariant p c self.new.parking × IsLogged x h (L.written log.new) (L.faults log.new) self.new.log c.entries)
             (IsTorn x h (L.written log.new) (L.faults log.new) c.entries)
             × Puts K.written K.faults out.old self.old.pending out.new self.new.pending (freed_lines xs) }
     {

@@ -1,7 +1,7 @@
 // The log of a session.
 ghost use Rattle.std.specs.Prelude.{◌≡◌, ◌++◌, ◌∷◌, [], None, ℕ, List, Option, length, true, false};
 ghost use Rattle.rx_rules.specs.declared.entries.Entry.{Entry};
-ghost use Rattle.rx_lines.specs.Inside.Telling.{Tells};
+ghost use Rattle.rx_lines.specs.Inside.Telling.{TextIsTold};
 ghost use Rattle.rx_lines.specs.Inside.Noting.{entries_of, freed_entry};
 ghost use Rattle.rx10_coordinator.specs.Inside.Logging.{IsLogged, IsTorn, IsWritten, IsCut, OrElse};
 
@@ -99,7 +99,7 @@ impl Log {
     fn write<L: Sink>(&mut self, log: &mut L) -> Result<(), Failed>
         ensures same { self.new.is_kept ≡ self.old.is_kept }
         ensures written { (w : Option (List ℕ)) (f : ℕ) (text : List ℕ)
-            → Tells w f (L.written log.old) (L.faults log.old) self.old.pending text
+            → TextIsTold w f (L.written log.old) (L.faults log.old) self.old.pending text
             → OrElse result (IsWritten w f (L.written log.new) (L.faults log.new) self.new text)
             (IsCut w f (L.written log.new) (L.faults log.new) text) }
     {

@@ -5,7 +5,7 @@ ghost use Rattle.rx10_coordinator.specs.declared.status.Status.TheVariants.{Read
 ghost use Rattle.rx10_coordinator.specs.Serving.{Served};
 ghost use Rattle.rx10_coordinator.specs.Log.{Logged};
 ghost use Rattle.rx10_coordinator.specs.Inside.Logging.{OrElse};
-ghost use Rattle.rx10_coordinator.specs.Inside.Desk.{Serves, Breaks};
+ghost use Rattle.rx10_coordinator.specs.Inside.Desk.{LinesAnswered, Breaks};
 
 use crate::desk::Desk;
 use crate::log::{Log, NoLog};
@@ -74,9 +74,9 @@ fn serve_desk<S: Source, K: Sink, L: Sink>(
     log: &mut L,
 ) -> Status
     requires { (p : ℕ) × (w : Option (List ℕ)) × (f : ℕ) × (x : Option (List ℕ)) × (h : ℕ)
-        × Serves p w f (K.written out.old) (K.faults out.old) x h (L.written log.old) (L.faults log.old) desk.old received.old [] }
+        × LinesAnswered p w f (K.written out.old) (K.faults out.old) x h (L.written log.old) (L.faults log.old) desk.old received.old [] }
     ensures served { (p : ℕ) (w : Option (List ℕ)) (f : ℕ) (x : Option (List ℕ)) (h : ℕ)
-        → Serves p w f (K.written out.old) (K.faults out.old) x h (L.written log.old) (L.faults log.old) desk.old received.old []
+        → LinesAnswered p w f (K.written out.old) (K.faults out.old) x h (L.written log.old) (L.faults log.old) desk.old received.old []
         → Logged p (S.left input.old) (S.left input.new) w (K.written out.new) x (L.written log.new)
         f (K.faults out.new) h (L.faults log.new) result }
     ensures read_fault { result ≡ ReadFault → Rose (S.faults input.old) (S.faults input.new) }
@@ -119,11 +119,12 @@ fn take_all<K: Sink, L: Sink>(
     bytes: &[u8],
 ) -> Result<(), Failed>
     requires { (p : ℕ) × (w : Option (List ℕ)) × (f : ℕ) × (x : Option (List ℕ)) × (h : ℕ) × (given : List ℕ)
-        × Serves p w f (K.written out.old) (K.faults out.old) x h (L.written log.old) (L.faults log.old) desk.old received.old given }
+        × LinesAnswered p w f (K.written out.old) (K.faults out.old) x h (L.written log.old)
+        (L.faults log.old) desk.old received.old given }
     ensures { (p : ℕ) (w : Option (List ℕ)) (f : ℕ) (x : Option (List ℕ)) (h : ℕ) (given : List ℕ)
-        → Serves p w f (K.written out.old) (K.faults out.old) x h (L.written log.old) (L.faults log.old) desk.old received.old given
+        → LinesAnswered p w f (K.written out.old) (K.faults out.old) x h (L.written log.old) (L.faults log.old) desk.old received.old given
         → OrElse result
-        (Serves p w f (K.written out.new) (K.faults out.new) x h (L.written log.new) (L.faults log.new)
+        (LinesAnswered p w f (K.written out.new) (K.faults out.new) x h (L.written log.new) (L.faults log.new)
         desk.new received.new (given ++ bytes.now))
         (Breaks p w f (K.written out.new) (K.faults out.new) x h (L.written log.new) (L.faults log.new)
         desk.new (given ++ bytes.now)) }
@@ -146,11 +147,12 @@ fn take<K: Sink, L: Sink>(
     byte: u8,
 ) -> Result<(), Failed>
     requires { (p : ℕ) × (w : Option (List ℕ)) × (f : ℕ) × (x : Option (List ℕ)) × (h : ℕ) × (given : List ℕ)
-        × Serves p w f (K.written out.old) (K.faults out.old) x h (L.written log.old) (L.faults log.old) desk.old received.old given }
+        × LinesAnswered p w f (K.written out.old) (K.faults out.old) x h (L.written log.old)
+        (L.faults log.old) desk.old received.old given }
     ensures { (p : ℕ) (w : Option (List ℕ)) (f : ℕ) (x : Option (List ℕ)) (h : ℕ) (given : List ℕ)
-        → Serves p w f (K.written out.old) (K.faults out.old) x h (L.written log.old) (L.faults log.old) desk.old received.old given
+        → LinesAnswered p w f (K.written out.old) (K.faults out.old) x h (L.written log.old) (L.faults log.old) desk.old received.old given
         → OrElse result
-        (Serves p w f (K.written out.new) (K.faults out.new) x h (L.written log.new) (L.faults log.new)
+        (LinesAnswered p w f (K.written out.new) (K.faults out.new) x h (L.written log.new) (L.faults log.new)
         desk.new received.new (given ++ byte ∷ []))
         (Breaks p w f (K.written out.new) (K.faults out.new) x h (L.written log.new) (L.faults log.new)
         desk.new (given ++ byte ∷ [])) }

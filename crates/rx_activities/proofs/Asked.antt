@@ -22,14 +22,14 @@ use Rattle.rx_book.specs.declared.passes.Note.{Note}
 use Rattle.rx_book.specs.History.{items_of}
 use Rattle.rx_book.specs.Passes.{view_of, word_of, note_view, note_word}
 use Rattle.rx_book.specs.Named.{BookName}
-use Rattle.rx_sound.specs.Held.{is_held}
-use Rattle.rx_sound.proofs.Beginning.{begins-so}
-use Rattle.rx_sound.specs.TermSteps.{Begins}
-use Rattle.rx_sound.proofs.Granting.{release_held}
-use Rattle.rx_sound.proofs.SpineGrants.{GrantsSpine, spine-grant, EmptyWhereDone, spine-done}
-use Rattle.rx_sound.proofs.Granting.{not_held}
-use Rattle.rx_sound.proofs.Targets.{targets-exist}
-use Rattle.rx_sound.specs.TermSteps.{Targets}
+use Rattle.rx_tree_laws.specs.Held.{is_held}
+use Rattle.rx_tree_laws.proofs.Beginning.{begins-so}
+use Rattle.rx_tree_laws.specs.TermSteps.{BeginsStatement}
+use Rattle.rx_tree_laws.proofs.Granting.{release_held}
+use Rattle.rx_tree_laws.proofs.SpineGrants.{GrantsSpine, spine-grant, EmptyWhereDone, spine-done}
+use Rattle.rx_tree_laws.proofs.Granting.{not_held}
+use Rattle.rx_tree_laws.proofs.Targets.{targets-exist}
+use Rattle.rx_tree_laws.specs.TermSteps.{Targets}
 use Rattle.rx_parts.specs.Ledger.{Walks}
 use Rattle.rx_parts.proofs.Reading.{actors-say}
 use Rattle.rx_parts.specs.declared.items.EventItem.{EventItem}
@@ -43,22 +43,22 @@ use Rattle.rx_objects.specs.Noted.{cells_named, asked_place, NoteSuits}
 use Rattle.rx_objects.proofs.Named.{named_same}
 use Rattle.rx_objects.proofs.Staying.{entries_same}
 use Rattle.rx_activities.specs.declared.hand.Hand.{Hand}
-use Rattle.rx_activities.specs.Knowing.{StandsSo, Knows, Serves, since, entries_seen, tree_seen, kinds_told}
+use Rattle.rx_activities.specs.Knowing.{StandsSo, ActivityInvariant, TicketServes, since, entries_seen, tree_seen, kinds_told}
 use Rattle.rx_activities.specs.Inside.Sending.{SuitsStep}
-use Rattle.rx_sound.proofs.Silent.{silent_so}
-use Rattle.rx_sound.specs.TermSteps.{Silent}
+use Rattle.rx_tree_laws.proofs.Silent.{silent_so}
+use Rattle.rx_tree_laws.specs.TermSteps.{Silent}
 
 -- Tickets.
 
 -- the ticket of a task that does not wait
-serves_free : (T : Tree) (ticket : AnyTicket) (P : Caller → Type 0) → ((who : Caller) → asker ticket ≡ Some who → MayAskMoving T who → P who) → Serves T false ticket → IsRunning ticket P
+serves_free : (T : Tree) (ticket : AnyTicket) (P : Caller → Type 0) → ((who : Caller) → asker ticket ≡ Some who → MayAskMoving T who → P who) → TicketServes T false ticket → IsRunning ticket P
 serves_free T (Moving who) P f s = absurd s
 serves_free T (Running who) P f s = f who refl s.1
 serves_free T (Held who) P f s = absurd (let e : false ≡ true = s.0 in let g : ⊥ = cc e in g)
 serves_free T Host P f s = absurd s
 
 -- and of one that waits
-serves_held : (T : Tree) (ticket : AnyTicket) → Serves T true ticket → IsHeld ticket (MayAskRelease T)
+serves_held : (T : Tree) (ticket : AnyTicket) → TicketServes T true ticket → IsHeld ticket (MayAskRelease T)
 serves_held T (Moving who) s = absurd s
 serves_held T (Running who) s = absurd (let e : true ≡ false = s.0 in let g : ⊥ = cc e in g)
 serves_held T (Held who) s = s.1
@@ -106,7 +106,7 @@ pub record OfSeat (a : Hand) (n : Note EventItem) : Type 0 where
   pub word : note_word n ≡ word_of a.seat
   pub seen : (note_view n).seen ≡ (view_of a.seat).seen
 
-module _ (code : Block) (L : BookName LedgerFixed) (a : Hand) (k : Knows L a) (s : StandsSo code L a k.who.task) where
+module _ (code : Block) (L : BookName LedgerFixed) (a : Hand) (k : ActivityInvariant L a) (s : StandsSo code L a k.who.task) where
   abbrev U : Given
   U = given L.fixed.setup
 
@@ -132,10 +132,10 @@ module _ (code : Block) (L : BookName LedgerFixed) (a : Hand) (k : Knows L a) (s
   free e h never = not_held s.stand.vars a.place.0 t (λ f. never (sym h ∙ f))
 
   moving : length es + 1 < 2 ^ 31 → is_held t ≡ false → (P : Caller → Type 0) → ((who : Caller) → asker a.ticket ≡ Some who → MayAskMoving T who → P who) → IsRunning a.ticket P
-  moving few e P f = serves_free T a.ticket P f (subst (λ (b : Bool). Serves T b a.ticket) e (s.serves few))
+  moving few e P f = serves_free T a.ticket P f (subst (λ (b : Bool). TicketServes T b a.ticket) e (s.serves few))
 
-  path_so : (e : Does) → d ≡ e → Begins e (begins t)
-  path_so e h = subst (λ (z : Does). Begins z (begins t)) h (begins-so s.stand.vars a.place.0 t)
+  path_so : (e : Does) → d ≡ e → BeginsStatement e (begins t)
+  path_so e h = subst (λ (z : Does). BeginsStatement z (begins t)) h (begins-so s.stand.vars a.place.0 t)
 
   silent : (e : Does) → d ≡ e → Silent e (begins t)
   silent e h = subst (λ (z : Does). Silent z (begins t)) h (silent_so s.stand.vars a.place.0 t)
@@ -166,7 +166,7 @@ module _ (code : Block) (L : BookName LedgerFixed) (a : Hand) (k : Knows L a) (s
       (moving few (free (Waits thrown) h (λ f. let g : ⊥ = cc f in g)) (MayAskWait T) (may_wait thrown h), no_path (begins t) (silent (Waits thrown) h))
   may_for AskRelease h few =
       let waits : is_held t ≡ true = release_held s.stand.vars a.place.0 t h in
-      (serves_held T a.ticket (subst (λ (b : Bool). Serves T b a.ticket) waits (s.serves few)), no_path (begins t) (silent Releases h))
+      (serves_held T a.ticket (subst (λ (b : Bool). TicketServes T b a.ticket) waits (s.serves few)), no_path (begins t) (silent Releases h))
   may_for (AskEnd thrown) h few =
       (moving few (free (Done thrown) h (λ f. let g : ⊥ = cc f in g)) (MayAskEnd T) (may_end thrown h), no_path (begins t) (silent (Done thrown) h))
   may_for (AskPrint value) h few =

@@ -8,12 +8,12 @@ use Rattle.rx_history.specs.declared.step.Next.TheVariants.{Book as BookStep, Do
 use Rattle.rx_history.specs.declared.step.Want.TheVariants.{Wait as WantWait}
 use Rattle.rx_history.specs.Next.{next_of, carried}
 use Rattle.rx_control.specs.Stands.{StandsFor}
-use Rattle.rx_sound.proofs.Beginning.{begins-so}
-use Rattle.rx_sound.specs.TermSteps.{Begins}
+use Rattle.rx_tree_laws.proofs.Beginning.{begins-so}
+use Rattle.rx_tree_laws.specs.TermSteps.{BeginsStatement}
 use Rattle.rx_plan.proofs.Requests.{asks_wait}
 use Rattle.rx_activities.specs.Inside.Sending.{target, IsReady}
 
-path_of : (d : Does) (o : Option (List ℕ)) (to : PlaceId) → Begins d o → target (next_of d) ≡ Some to → (x : List ℕ) × (o ≡ Some x)
+path_of : (d : Does) (o : Option (List ℕ)) (to : PlaceId) → BeginsStatement d o → target (next_of d) ≡ Some to → (x : List ℕ) × (o ≡ Some x)
 path_of (Local left vars) o to b h = absurd (let g : ⊥ = cc h in g)
 path_of (Makes name words) o to b h = absurd (let g : ⊥ = cc h in g)
 path_of (Gets name target index) o to b h = absurd (let g : ⊥ = cc h in g)

@@ -22,10 +22,10 @@ use Rattle.rx_book.specs.Passes.{view_of, word_of}
 use Rattle.rx_book.specs.Named.{BookName}
 use Rattle.rx_ledger.specs.Owned.{Owned, own_told}
 use Rattle.rx_ledger.specs.Answering.{asker}
-use Rattle.rx_sound.specs.Held.{is_held, Unheld}
-use Rattle.rx_sound.specs.Spine.{NoScopeOpen, Spine}
-use Rattle.rx_sound.proofs.Holding.{unheld-front}
-use Rattle.rx_sound.proofs.Spines.{flat-spine}
+use Rattle.rx_tree_laws.specs.Held.{is_held, Unheld}
+use Rattle.rx_tree_laws.specs.Spine.{NoScopeOpen, Spine}
+use Rattle.rx_tree_laws.proofs.Holding.{unheld-front}
+use Rattle.rx_tree_laws.proofs.Spines.{flat-spine}
 use Rattle.rx_parts.specs.Ledger.{Actor, Present, Walks, LegalLedger, stays}
 use Rattle.rx_parts.specs.declared.items.EntryItem.{EntryItem}
 use Rattle.rx_parts.specs.declared.items.EventItem.{EventItem}
@@ -36,7 +36,7 @@ use Rattle.rx_objects.specs.Ending.{entries_at}
 use Rattle.rx_objects.specs.Ledger.{LedgerIsLegal}
 use Rattle.rx_objects.specs.Place.{PlaceIsLegal, last_carried}
 use Rattle.rx_activities.specs.declared.hand.Hand.{Hand}
-use Rattle.rx_activities.specs.Knowing.{entries_seen, tree_seen, kinds_told, since, Serves, IsOfRun, IsSeatAt, StandsSo, Knows}
+use Rattle.rx_activities.specs.Knowing.{entries_seen, tree_seen, kinds_told, since, TicketServes, IsOfRun, IsSeatAt, StandsSo, ActivityInvariant}
 use Rattle.rx_activities.specs.Inside.Births.{IsWith}
 
 -- by what was seen of the ledger the caller's task is at this place, stands right behind its last entry and has made no event here
@@ -123,11 +123,11 @@ module _ (L : BookName LedgerFixed) (c : Control) (place : PlaceId) (pass : Pass
         held = front.0;
         calm = λ yes. none;
         spine = by_pass (λ v. Spine b.actor.stand.term (kinds_told (entries_at v.seen) who.task)) (subst (Spine b.actor.stand.term) (sym kinds) (flat-spine b.actor.stand.term b.no_scope));
-        serves = by_pass (λ v. length (entries_at v.seen) + 1 < 2 ^ 31 → Serves (tree_of places (entries_at v.seen)) (is_held b.actor.stand.term) a.ticket)
-            (λ short. by_ticket (Serves (tree_of places (entries_seen pass)) (is_held b.actor.stand.term)) (front.1, b.serves short));
+        serves = by_pass (λ v. length (entries_at v.seen) + 1 < 2 ^ 31 → TicketServes (tree_of places (entries_at v.seen)) (is_held b.actor.stand.term) a.ticket)
+            (λ short. by_ticket (TicketServes (tree_of places (entries_seen pass)) (is_held b.actor.stand.term)) (front.1, b.serves short));
       }
 
-  pub knows_at : who.place ≡ Stays place → IsOfRun L pass → IsSeatAt L place seat pass → place.0 < (tree_seen L.fixed pass).places → ((code : Block) → Stands L.fixed.program.script code → BeginsSo code L c place pass seat who) → Knows L a
+  pub knows_at : who.place ≡ Stays place → IsOfRun L pass → IsSeatAt L place seat pass → place.0 < (tree_seen L.fixed pass).places → ((code : Block) → Stands L.fixed.program.script code → BeginsSo code L c place pass seat who) → ActivityInvariant L a
   knows_at is_at run at inside begins =
       record {
         who = who;

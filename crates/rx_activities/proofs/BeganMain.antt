@@ -15,8 +15,8 @@ use Rattle.rx_book.specs.Passes.{view_of, word_of}
 use Rattle.rx_book.specs.Named.{BookName}
 use Rattle.rx_ledger.specs.Owned.{own_told}
 use Rattle.rx_ledger.proofs.Rows.{main_begins}
-use Rattle.rx_sound.proofs.Holding.{unheld-items}
-use Rattle.rx_sound.proofs.Spines.{flat-items}
+use Rattle.rx_tree_laws.proofs.Holding.{unheld-items}
+use Rattle.rx_tree_laws.proofs.Spines.{flat-items}
 use Rattle.rx_control.proofs.SomeWords.{makes-some}
 use Rattle.rx_parts.specs.Ledger.{main_actor}
 use Rattle.rx_parts.specs.declared.items.EntryItem.{EntryItem}
@@ -27,7 +27,7 @@ use Rattle.rx_objects.specs.Ending.{entries_at}
 use Rattle.rx_objects.specs.Place.{PlaceIsLegal, last_carried}
 use Rattle.rx_objects.proofs.Scene.{opened, first}
 use Rattle.rx_activities.specs.declared.hand.Hand.{Hand}
-use Rattle.rx_activities.specs.Knowing.{IsOfRun, IsSeatAt, Knows}
+use Rattle.rx_activities.specs.Knowing.{IsOfRun, IsSeatAt, ActivityInvariant}
 use Rattle.rx_activities.specs.Starting.{IsOpening}
 use Rattle.rx_activities.specs.Inside.Births.{IsWith}
 use Rattle.rx_activities.proofs.BeganAt.{BeginsSo, knows_at}
@@ -83,7 +83,7 @@ module _ (L : BookName LedgerFixed) (control : Control) (ticket : Caller) (pass 
         serves = λ short. main_begins L.fixed.setup.places (entries_at (view_of pass).seen) ticket none o.main;
       }
 
-  pub main_knows : (t : Block) → Stands L.fixed.program.script t → AllInRange t → (a : Hand) → IsWith control (record { 0 = 0 }) pass seat (Running ticket) [] a → Knows L a
+  pub main_knows : (t : Block) → Stands L.fixed.program.script t → AllInRange t → (a : Hand) → IsWith control (record { 0 = 0 }) pass seat (Running ticket) [] a → ActivityInvariant L a
   main_knows t is fits a o' =
       knows_at L control (record { 0 = 0 }) pass seat ticket a o' (ap (λ (w : Caller). w.place) o.main) run
       (new_seat L (record { 0 = 0 }) seat pass o.at o.seat_unseen)

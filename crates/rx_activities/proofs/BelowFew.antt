@@ -1,4 +1,4 @@
--- There are 1 to 16 places in each history. (Belongs into rx_rules or rx_sound.)
+-- There are 1 to 16 places in each history. (Belongs into rx_rules or rx_tree_laws.)
 use Rattle.std.proofs.Common.{ℕ, suc, ◌≤◌, List, [], ◌∷◌, arith}
 use Rattle.rx_rules.specs.declared.entries.Entry.{Entry}
 use Rattle.rx_rules.specs.declared.entries.Entry.TheVariants.{Step, Root, Death, Join}

@@ -26,7 +26,7 @@ use Rattle.rx_ledger.specs.declared.asks.Reply.{Reply}
 use Rattle.rx_ledger.specs.declared.asks.Reply.TheVariants.{Called, Spawned}
 use Rattle.rx_ledger.specs.Told.{due_entries}
 use Rattle.rx_ledger.specs.Answering.{Answers, OpensAt, StartsTask, ticket_of, asker}
-use Rattle.rx_ledger.specs.Kept.{Kept, is_refusal, Answered, AppliedIf}
+use Rattle.rx_ledger.specs.Kept.{KeeperView, is_refusal, Answered, AppliedIf}
 use Rattle.rx_ledger.specs.GoingOn.{MayStart}
 use Rattle.rx_ledger.proofs.Begins.{children_begin}
 use Rattle.rx_ledger.proofs.Called.{front_folds}
@@ -67,10 +67,10 @@ module _ (L : BookName LedgerFixed) (rest : Hand) (reply : Reply) (child : Optio
   abbrev z : View EntryItem
   z = view_of rest.pass
 
-  abbrev was : Kept
+  abbrev was : KeeperView
   was = born.was L rest reply child w
 
-  abbrev now : Kept
+  abbrev now : KeeperView
   now = born.now L rest reply child w
 
   -- the answer, where it is no refusal

@@ -10,9 +10,9 @@ use Rattle.rx_rules.specs.declared.entries.Entry.{Entry}
 use Rattle.rx_rules.specs.declared.entries.Entry.TheVariants.{Step}
 use Rattle.rx_rules.specs.declared.tasks.Where.TheVariants.{At as Stays, Travel}
 use Rattle.rx_rules.specs.Plays.{Fits}
-use Rattle.rx_sound.proofs.Reach.{task_below}
-use Rattle.rx_sound.proofs.Reached.{sound}
-use Rattle.rx_sound.proofs.Histories.{fold_reached}
+use Rattle.rx_tree_laws.proofs.Reach.{task_below}
+use Rattle.rx_tree_laws.proofs.Reached.{sound}
+use Rattle.rx_tree_laws.proofs.Histories.{fold_reached}
 use Rattle.rx_runs.specs.Segments.{Stand}
 use Rattle.rx_finish.specs.declared.ledger.Caller.{Caller}
 use Rattle.rx_finish.specs.Callers.{HasNumbers, MayAskMoving, MayAskArrive}
@@ -35,12 +35,12 @@ use Rattle.rx_ledger.specs.declared.asks.Reply.{Reply}
 use Rattle.rx_ledger.specs.Told.{due_entries}
 use Rattle.rx_ledger.specs.Answering.{fresh_caller, asker}
 use Rattle.rx_ledger.specs.GoingOn.{MayStart}
-use Rattle.rx_ledger.specs.Kept.{Kept, Answered}
+use Rattle.rx_ledger.specs.Kept.{KeeperView, Answered}
 use Rattle.rx_ledger.specs.Owned.{own_after, own_told}
 use Rattle.rx_ledger.proofs.Called.{own_append}
 use Rattle.rx_ledger.proofs.OwnTold.{numbers_are_left, unborn_owns}
-use Rattle.rx_sound.proofs.Granting.{unheld-child}
-use Rattle.rx_sound.proofs.SpineGrants.{flat-child}
+use Rattle.rx_tree_laws.proofs.Granting.{unheld-child}
+use Rattle.rx_tree_laws.proofs.SpineGrants.{flat-child}
 use Rattle.rx_parts.specs.Ledger.{LedgerItem, Actor, Present, Away, Walks, LegalLedger, actor_born, actors_born}
 use Rattle.rx_parts.specs.Calling.{EachSeated}
 use Rattle.rx_parts.specs.Growing.{MayRequest}
@@ -58,9 +58,9 @@ use Rattle.rx_objects.specs.Place.{shown, PlaceIsLegal, last_carried}
 use Rattle.rx_objects.proofs.Places.{carried_same, prefix_items}
 use Rattle.rx_activities.specs.declared.hand.Hand.{Hand}
 use Rattle.rx_activities.specs.declared.replies.Child.{Child}
-use Rattle.rx_activities.specs.Knowing.{IsOfRun, IsSeatAt, StandsSo, Knows, since}
-use Rattle.rx_activities.specs.Starting.{ComesSo, Comes}
-use Rattle.rx_activities.specs.Inside.Births.{IsWith, HasMet, IsBorn, StaysWith, Starts}
+use Rattle.rx_activities.specs.Knowing.{IsOfRun, IsSeatAt, StandsSo, ActivityInvariant, since}
+use Rattle.rx_activities.specs.Starting.{ComesSo, TravellerInvariant}
+use Rattle.rx_activities.specs.Inside.Births.{IsWith, HasMet, IsBorn, StaysWith, StartsKnowing}
 use Rattle.rx_activities.specs.Inside.Sending.{WasSent, IsPrepared, SeatIsNew}
 use Rattle.rx_activities.proofs.BeganAt.{BeginsSo, knows_at}
 use Rattle.rx_runs.proofs.SomeWords.{some-child}
@@ -86,7 +86,7 @@ module _ (L : BookName LedgerFixed) (rest : Hand) (reply : Reply) (child_of : Op
   abbrev a : Hand
   a = w.hand
 
-  abbrev k : Knows L w.hand
+  abbrev k : ActivityInvariant L w.hand
   k = w.knows
 
   abbrev v : View EntryItem
@@ -98,10 +98,10 @@ module _ (L : BookName LedgerFixed) (rest : Hand) (reply : Reply) (child_of : Op
   abbrev c : Called shown (LedgerDoes L.fixed) (LedgerIsLegal L.fixed) (view_of w.sent) w.op w.replied.answer (view_of rest.pass)
   c = w.replied.called
 
-  abbrev pub was : Kept
+  abbrev pub was : KeeperView
   was = calls.was f v z w.op w.replied.answer c w.sent.own
 
-  abbrev pub now : Kept
+  abbrev pub now : KeeperView
   now = calls.now f v z w.op w.replied.answer c w.sent.own
 
   seen_is : v.seen ≡ (view_of a.pass).seen
@@ -291,7 +291,7 @@ module _ (L : BookName LedgerFixed) (rest : Hand) (reply : Reply) (child_of : Op
           }
 
       pub comes : (box : Box Control) → box.value ≡ ch.control.value → (from.0 == to.0) ≡ false → (length (entries_at m.seen) + 1 < 2 ^ 31 → MayAskArrive (tree_of places (entries_at m.seen)) (fresh_caller new scope (Travel from to)))
-          → Comes L (record { control = box; ticket = fresh_caller new scope (Travel from to); pass = met })
+          → TravellerInvariant L (record { control = box; ticket = fresh_caller new scope (Travel from to); pass = met })
       comes box same apart serves =
           record {
             pass = run;
@@ -353,7 +353,7 @@ module _ (L : BookName LedgerFixed) (rest : Hand) (reply : Reply) (child_of : Op
               serves = serves;
             }
 
-        pub knows : (hand : Hand) → IsWith ch.control.value rest.place met sp (Running (fresh_caller new scope (Stays to))) [] hand → Knows L hand
+        pub knows : (hand : Hand) → IsWith ch.control.value rest.place met sp (Running (fresh_caller new scope (Stays to))) [] hand → ActivityInvariant L hand
         knows hand o =
             knows_at L ch.control.value rest.place met sp (fresh_caller new scope (Stays to)) hand o (ap Stays to_is) run seat_at
             (subst (λ (p : PlaceId). p.0 < (tree_of places (entries_at m.seen)).places) (sym w.place) (let x = k.inside in let y = known (suc a.place.0) (omega (arith, x)) in omega (arith, y)))
@@ -371,7 +371,7 @@ module _ (L : BookName LedgerFixed) (rest : Hand) (reply : Reply) (child_of : Op
         record {
           word = prepared.word ∙ k.pass.word;
           begins = λ met h.
-              subst (λ (t : AnyTicket). Starts L rest.place t ch.control.value met ch.seat) (sym is)
+              subst (λ (t : AnyTicket). StartsKnowing L rest.place t ch.control.value met ch.seat) (sym is)
               (λ box same.
               comes met h box same apart (λ few. served met h (λ T. MayAskArrive T (fresh_caller new scope (Travel from to))) (λ numbers. subst (λ (t : AnyTicket). MayStart (tree_of places now.entries) (Some t)) is (serves numbers)) few));
         }
@@ -388,7 +388,7 @@ module _ (L : BookName LedgerFixed) (rest : Hand) (reply : Reply) (child_of : Op
             record {
               word = prepared.word ∙ k.pass.word;
               begins = λ met h.
-                  subst (λ (t : AnyTicket). Starts L rest.place t ch.control.value met ch.seat) (sym is)
+                  subst (λ (t : AnyTicket). StartsKnowing L rest.place t ch.control.value met ch.seat) (sym is)
                   (subst (λ (o : Option (Pass EventItem)). StaysWith L rest.place (fresh_caller new scope (Stays to)) ch.control.value met o) (sym is_seat)
                   (knows met h together sp is_seat n.0 n.1
                   (λ few. served met h (λ T. MayAskMoving T (fresh_caller new scope (Stays to))) (λ numbers. subst (λ (t : AnyTicket). MayStart (tree_of places now.entries) (Some t)) is (serves numbers)) few)));

@@ -1,9 +1,9 @@
 -- A call of the ledger's book that appended what was due and then one entry.
 use Rattle.std.proofs.Common.{◌≡◌, ℕ, suc, ◌+◌, ◌<◌, ◌≤◌, ◌^◌, List, [], ◌∷◌, ◌++◌, map, length, Some, slice_get, ap, sym, ◌∙◌, subst, append_assoc, arith, length-append}
 use Rattle.std.proofs.lemmas.List.{map-append}
-use Rattle.rx_rules.specs.declared.entries.Entry.{Entry}
 use Rattle.rx_rules.proofs.Common.{Block, tree_of, Given, Folds}
-use Rattle.rx_sound.specs.Sound.{Each}
+use Rattle.rx_rules.specs.declared.entries.Entry.{Entry}
+use Rattle.rx_tree_laws.specs.Sound.{Each}
 use Rattle.rx_finish.specs.Callers.{HasNumbers}
 use Rattle.rx_ticket.specs.declared.tickets.AnyTicket.{AnyTicket}
 use Rattle.rx_history.specs.Setups.{given}
@@ -15,7 +15,7 @@ use Rattle.rx_book.specs.History.{stamped, stamp_all, entries_by}
 use Rattle.rx_book.specs.Calls.{Called}
 use Rattle.rx_ledger.specs.Told.{due_entries}
 use Rattle.rx_ledger.specs.Asking.{MayApply}
-use Rattle.rx_ledger.specs.Kept.{Kept, Answered}
+use Rattle.rx_ledger.specs.Kept.{KeeperView, Answered}
 use Rattle.rx_ledger.specs.Staying.{NotOf}
 use Rattle.rx_ledger.proofs.Called.{front_folds}
 use Rattle.rx_ledger.proofs.Keepers.{asks_after}
@@ -61,10 +61,10 @@ module _ (f : LedgerFixed) (v z : View EntryItem) (op : LedgerOp) (r : LedgerRep
   lines = entries_at before
 
   -- the keeper before the call, and after it
-  abbrev pub was : Kept
+  abbrev pub was : KeeperView
   was = record { setup = f.setup; entries = lines; behind = c.replied.behind }
 
-  abbrev pub now : Kept
+  abbrev pub now : KeeperView
   now = record { setup = f.setup; entries = lines ++ c.replied.new; behind = c.replied.behind' }
 
   pub alone : entries_by v.number c.between ≡ []

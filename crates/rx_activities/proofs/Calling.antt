@@ -1,12 +1,12 @@
 -- What an activity shows by its passes of a call of its place's store.
 use Rattle.std.proofs.Common.{◌≡◌, ◌+◌, ◌<◌, ◌≤◌, ◌^◌, ℕ, false, List, [], length, Option, Some, slice_get, refl, ap, sym, ◌∙◌, subst, arith}
 use mathlib.Core.List.{IsPrefix}
-use Rattle.rx_rules.proofs.Common.{has_bit, PlaceId, TaskId, Block, opening_state, Term, Vars, Does, Local, Makes, Gets, Puts, Forgets, Opens, Calls, Spawns, Waits, Releases, Prints, Counts, Done, does, begins, tree_of, Given, Folds, Player, Goes, stays as goes_none, Cells}
+use Rattle.rx_rules.proofs.Common.{has_bit, PlaceId, TaskId, Block, opening_state, Term, Vars, Does, Local, Makes, Gets, Puts, Forgets, Opens, Calls, Spawns, Waits, Releases, Prints, Counts, Done, does, begins, tree_of, Given, Folds, Player, RunsWithoutEntry, stays as goes_none, Cells}
 use Rattle.rx_runs.specs.Steps.{TermSinks}
-use Rattle.rx_sound.proofs.Beginning.{begins-so}
-use Rattle.rx_sound.specs.TermSteps.{Begins}
+use Rattle.rx_tree_laws.proofs.Beginning.{begins-so}
+use Rattle.rx_tree_laws.specs.TermSteps.{BeginsStatement}
 use Rattle.rx_store.proofs.StoreCalls.{IsCall, is_call}
-use Rattle.rx_sound.proofs.Receiving.{call-so}
+use Rattle.rx_tree_laws.proofs.Receiving.{call-so}
 use Rattle.rx_runs.specs.SomeWords.{AsksSome}
 use Rattle.rx_runs.proofs.SomeWords.{goes_some}
 use Rattle.rx_syntax.specs.Shape.{Stands}
@@ -25,8 +25,8 @@ use Rattle.rx_book.specs.History.{items_of}
 use Rattle.rx_book.specs.Passes.{view_of, word_of}
 use Rattle.rx_book.specs.Named.{BookName}
 use Rattle.rx_book.specs.Calls.{Looked}
-use Rattle.rx_sound.specs.Held.{is_held}
-use Rattle.rx_sound.specs.Spine.{Spine}
+use Rattle.rx_tree_laws.specs.Held.{is_held}
+use Rattle.rx_tree_laws.specs.Spine.{Spine}
 use Rattle.rx_ledger.specs.Answering.{asker}
 use Rattle.rx_parts.proofs.Lists.{one_item}
 use Rattle.rx_parts.specs.Ledger.{Actor, Walks, LegalLedger, stays, local, stores}
@@ -44,7 +44,7 @@ use Rattle.rx_objects.proofs.Staying.{entries_same}
 use Rattle.rx_objects.specs.Opened.{PlaceIs}
 use Rattle.rx_activities.specs.declared.hand.Hand.{Hand}
 use Rattle.rx_activities.proofs.BelowFew.{few_there}
-use Rattle.rx_activities.specs.Knowing.{StandsSo, Knows, since, kinds_told, Serves}
+use Rattle.rx_activities.specs.Knowing.{StandsSo, ActivityInvariant, since, kinds_told, TicketServes}
 
 -- what is fixed of the object of the activity's place, and the operation
 abbrev pub fixed_at : BookName LedgerFixed → Hand → ℕ → PlaceFixed
@@ -57,7 +57,7 @@ pub fixed_is : (L : BookName LedgerFixed) (a : Hand) (b : BookName PlaceFixed) �
 fixed_is L a b is = λ i. record { place = is.here i; words = b.fixed.words; ledger = is.ledger i }
 
 -- what an activity knows, said of the caller that has its ticket
-abbrev pub asked_by : (L : BookName LedgerFixed) (a : Hand) (k : Knows L a) (w : Caller) → asker a.ticket ≡ Some w → Knows L a
+abbrev pub asked_by : (L : BookName LedgerFixed) (a : Hand) (k : ActivityInvariant L a) (w : Caller) → asker a.ticket ≡ Some w → ActivityInvariant L a
 asked_by L a k w e =
     let same : k.who ≡ w = one_item (asker a.ticket) k.who w k.asks e in
     record {
@@ -86,7 +86,7 @@ said code U t a g h e l s = subst (λ (x : List (Stamped EntryItem)). (m : Legal
 abbrev pub with_pass : Hand → Pass EntryItem → Hand
 with_pass a q = record a { pass = q }
 
-module _ (L : BookName LedgerFixed) (a : Hand) (q : Pass EntryItem) (k : Knows L a) (word : word_of q ≡ word_of a.pass)
+module _ (L : BookName LedgerFixed) (a : Hand) (q : Pass EntryItem) (k : ActivityInvariant L a) (word : word_of q ≡ word_of a.pass)
     (l : Looked (view_of a.pass) (view_of q)) where
   seen : (view_of q).seen ≡ (view_of a.pass).seen
   seen = l.same.0
@@ -121,7 +121,7 @@ module _ (L : BookName LedgerFixed) (a : Hand) (q : Pass EntryItem) (k : Knows L
         held = s.held;
         calm = s.calm;
         spine = kept (λ h. Spine s.stand.term (kinds_told (entries_at h) t)) s.spine;
-        serves = kept (λ h. length (entries_at h) + 1 < 2 ^ 31 → Serves (tree_of places (entries_at h)) (is_held s.stand.term) a.ticket) s.serves;
+        serves = kept (λ h. length (entries_at h) + 1 < 2 ^ 31 → TicketServes (tree_of places (entries_at h)) (is_held s.stand.term) a.ticket) s.serves;
       }
 
   pub looked_stand : (code : Block) (t : TaskId) (s : StandsSo code L a t) → (looked_stands code t s).stand ≡ s.stand
@@ -129,7 +129,7 @@ module _ (L : BookName LedgerFixed) (a : Hand) (q : Pass EntryItem) (k : Knows L
   looked_stand code t s = refl
 
   -- an activity that has looked at the ledger's word knows what it knew
-  pub looked_knows : Knows L (with_pass a q)
+  pub looked_knows : ActivityInvariant L (with_pass a q)
   looked_knows =
       record {
         who = k.who;
@@ -186,14 +186,14 @@ module _ (L : BookName LedgerFixed) (a : Hand) (q : Pass EntryItem) (k : Knows L
 pub call_is : (code : Block) (L : BookName LedgerFixed) (a : Hand) (t : TaskId) (s : StandsSo code L a t) (op : CellOp) → TermSinks → CellStep op ≡ next_of (does a.control.value.vars a.place.0 s.stand.term) → IsCall s.stand.term a.place op (does s.stand.vars a.place.0 s.stand.term)
 call_is code L a t s op sink next =
     let p : Player = record { term = s.stand.term; vars = s.stand.vars; batch = [] } in
-    let none : Goes 0 0 t a.place p opening_state [] p opening_state [] = goes_none in
+    let none : RunsWithoutEntry 0 0 t a.place p opening_state [] p opening_state [] = goes_none in
     let asks : AsksSome (does s.stand.vars a.place.0 s.stand.term) = (goes_some 0 0 t a.place p p opening_state opening_state [] [] none s.some).1 s.stand.vars in
     is_call s.stand.term a.place op (does s.stand.vars a.place.0 s.stand.term)
     (ap (λ (v : Vars). next_of (does v a.place.0 s.stand.term)) (sym s.vars) ∙ sym next) (begins-so s.stand.vars a.place.0 s.stand.term) (call-so s.stand.vars a.place.0 s.stand.term) asks
     (sink s.stand.vars a.place.0 s.stand.term)
 
 -- where a call of the store is next, a statement begins
-call_begins : (op : CellOp) (d : Does) (b : Option (List ℕ)) → next_of d ≡ CellStep op → Begins d b → (x : List ℕ) × (b ≡ Some x)
+call_begins : (op : CellOp) (d : Does) (b : Option (List ℕ)) → next_of d ≡ CellStep op → BeginsStatement d b → (x : List ℕ) × (b ≡ Some x)
 call_begins op (Local left vars) b e h = absurd (let f : ⊥ = cc in f)
 call_begins op (Makes name words) b e h = h
 call_begins op (Gets name target index) b e h = h
@@ -209,7 +209,7 @@ call_begins op (Counts name) b e h = absurd (let f : ⊥ = cc in f)
 call_begins op (Done faults) b e h = absurd (let f : ⊥ = cc in f)
 
 -- In each run of the program in which the activity is known, and calls the store next.
-module _ (p : Checked) (L : BookName LedgerFixed) (a : Hand) (k : Knows L a) (program : L.fixed.program ≡ p) (op : CellOp) (next : (t : Term) → StandsFor p.script a.control.value t → CellStep op ≡ next_of (does a.control.value.vars a.place.0 t)) where
+module _ (p : Checked) (L : BookName LedgerFixed) (a : Hand) (k : ActivityInvariant L a) (program : L.fixed.program ≡ p) (op : CellOp) (next : (t : Term) → StandsFor p.script a.control.value t → CellStep op ≡ next_of (does a.control.value.vars a.place.0 t)) where
   pub of_program : (c : Control) (t : Term) → StandsFor L.fixed.program.script c t → StandsFor p.script c t
   of_program c t s = subst (λ (q : Checked). StandsFor q.script c t) program s
 

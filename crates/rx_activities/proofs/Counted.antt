@@ -27,8 +27,8 @@ use Rattle.rx_ledger.specs.Kept.{Answered}
 use Rattle.rx_ledger.specs.Owned.{Owned, own_told}
 use Rattle.rx_ledger.proofs.Called.{front_folds}
 use Rattle.rx_ledger.proofs.StaysGood.{places_more}
-use Rattle.rx_sound.proofs.Granting.{AfterGrant}
-use Rattle.rx_sound.proofs.SpineGrants.{GrantsSpine}
+use Rattle.rx_tree_laws.proofs.Granting.{AfterGrant}
+use Rattle.rx_tree_laws.proofs.SpineGrants.{GrantsSpine}
 use Rattle.rx_parts.specs.declared.items.EventItem.{EventItem}
 use Rattle.rx_objects.specs.declared.ledger.LedgerFixed.{LedgerFixed}
 use Rattle.rx_objects.specs.Ending.{entries_at}

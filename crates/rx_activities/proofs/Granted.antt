@@ -13,8 +13,8 @@ use Rattle.rx_book.specs.declared.views.View.{View}
 use Rattle.rx_book.specs.declared.passes.Pass.{Pass}
 use Rattle.rx_book.specs.Passes.{view_of}
 use Rattle.rx_book.specs.Named.{BookName}
-use Rattle.rx_sound.specs.Held.{is_held, HeldInFront}
-use Rattle.rx_sound.specs.Spine.{Spine}
+use Rattle.rx_tree_laws.specs.Held.{is_held, HeldInFront}
+use Rattle.rx_tree_laws.specs.Spine.{Spine}
 use Rattle.rx_parts.specs.Ledger.{LedgerItem, Actor, Walks, stays, LegalLedger, actor_granted}
 use Rattle.rx_parts.specs.Growing.{NoneBy, MayRequest}
 use Rattle.rx_parts.specs.Calling.{AllHostItems}
@@ -27,7 +27,7 @@ use Rattle.rx_objects.specs.declared.ledger.LedgerFixed.{LedgerFixed}
 use Rattle.rx_objects.specs.Mentioned.{as_named}
 use Rattle.rx_objects.specs.Ending.{entries_at}
 use Rattle.rx_activities.specs.declared.hand.Hand.{Hand}
-use Rattle.rx_activities.specs.Knowing.{StandsSo, Serves, since, kinds_told}
+use Rattle.rx_activities.specs.Knowing.{StandsSo, TicketServes, since, kinds_told}
 use Rattle.rx_activities.specs.Inside.Births.{IsWith}
 use Rattle.rx_runs.proofs.SomeWords.{some-granted}
 
@@ -59,7 +59,7 @@ pub record GoneOn (code : Block) (L : BookName LedgerFixed) (a : Hand) (t : Task
   pub held : HeldInFront (granted (brought act) s.stand.term)
   pub spine : Spine (granted (brought act) s.stand.term) (kinds_told (entries_at v.seen) t)
   pub known : (vars_told (does s.stand.vars a.place.0 s.stand.term) act s.stand.vars).places ≤ (tree_of L.fixed.setup.places (entries_at v.seen)).places
-  pub serves : length (entries_at v.seen) + 1 < 2 ^ 31 → Serves (tree_of L.fixed.setup.places (entries_at v.seen)) (is_held (granted (brought act) s.stand.term)) ticket
+  pub serves : length (entries_at v.seen) + 1 < 2 ^ 31 → TicketServes (tree_of L.fixed.setup.places (entries_at v.seen)) (is_held (granted (brought act) s.stand.term)) ticket
 
 module _ (code : Block) (L : BookName LedgerFixed) (a : Hand) (t : TaskId) (s : StandsSo code L a t) (act : Act) (v : View EntryItem) (o : OneAct code L a t s act v) where
   abbrev U : Given
@@ -151,6 +151,6 @@ module _ (code : Block) (L : BookName LedgerFixed) (a : Hand) (t : TaskId) (s : 
         held = n.held;
         calm = λ waits. none_new;
         spine = seen_so (λ (x : View EntryItem). Spine left (kinds_told (entries_at x.seen) t)) n.spine;
-        serves = subst (λ (y : AnyTicket). length (entries_at (view_of h.pass).seen) + 1 < 2 ^ 31 → Serves (tree_of L.fixed.setup.places (entries_at (view_of h.pass).seen)) (is_held left) y) (sym is.ticket_is)
-            (seen_so (λ (x : View EntryItem). length (entries_at x.seen) + 1 < 2 ^ 31 → Serves (tree_of L.fixed.setup.places (entries_at x.seen)) (is_held left) ticket) n.serves);
+        serves = subst (λ (y : AnyTicket). length (entries_at (view_of h.pass).seen) + 1 < 2 ^ 31 → TicketServes (tree_of L.fixed.setup.places (entries_at (view_of h.pass).seen)) (is_held left) y) (sym is.ticket_is)
+            (seen_so (λ (x : View EntryItem). length (entries_at x.seen) + 1 < 2 ^ 31 → TicketServes (tree_of L.fixed.setup.places (entries_at x.seen)) (is_held left) ticket) n.serves);
       }

@@ -25,9 +25,9 @@ use Rattle.rx_ledger.specs.Answering.{asker}
 use Rattle.rx_ledger.specs.Calling.{owned_by}
 use Rattle.rx_ledger.specs.Kept.{Answered}
 use Rattle.rx_ledger.specs.Owned.{Owned, own_told}
-use Rattle.rx_sound.specs.Spine.{Spine}
-use Rattle.rx_sound.proofs.Granting.{AfterGrant, after-grant}
-use Rattle.rx_sound.proofs.SpineGrants.{GrantsSpine, spine-grant}
+use Rattle.rx_tree_laws.specs.Spine.{Spine}
+use Rattle.rx_tree_laws.proofs.Granting.{AfterGrant, after-grant}
+use Rattle.rx_tree_laws.proofs.SpineGrants.{GrantsSpine, spine-grant}
 use Rattle.rx_objects.specs.declared.ledger.LedgerFixed.{LedgerFixed}
 use Rattle.rx_objects.specs.Ending.{entries_at}
 use Rattle.rx_activities.specs.declared.replies.Child.{Child}

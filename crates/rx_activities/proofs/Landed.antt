@@ -6,7 +6,7 @@ use Rattle.rx_rules.specs.declared.entries.Act.TheVariants.{Arrive}
 use Rattle.rx_rules.specs.declared.entries.Entry.{Entry}
 use Rattle.rx_rules.specs.declared.entries.Entry.TheVariants.{Step}
 use Rattle.rx_rules.specs.declared.tasks.Where.TheVariants.{At as Stays}
-use Rattle.rx_sound.specs.Sound.{Each}
+use Rattle.rx_tree_laws.specs.Sound.{Each}
 use Rattle.rx_finish.specs.declared.ledger.Caller.{Caller}
 use Rattle.rx_finish.specs.Callers.{MayAskMoving, HasNumbers}
 use Rattle.rx_finish.specs.Calls.{landing}
@@ -28,7 +28,7 @@ use Rattle.rx_ledger.specs.declared.asks.Reply.TheVariants.{Opened, Called as Ca
 use Rattle.rx_ledger.specs.Told.{due_entries}
 use Rattle.rx_ledger.specs.Answering.{Answers, Lands, MustWait, task as by_task, host as by_host, asker}
 use Rattle.rx_ledger.specs.Asking.{MayApply}
-use Rattle.rx_ledger.specs.Kept.{Kept, is_refusal, Answered, Applied, AppliedIf}
+use Rattle.rx_ledger.specs.Kept.{KeeperView, is_refusal, Answered, Applied, AppliedIf}
 use Rattle.rx_ledger.specs.Owned.{own_told}
 use Rattle.rx_ledger.specs.Staying.{NotBy, NotOf}
 use Rattle.rx_ledger.specs.Calling.{owned_by}
@@ -52,8 +52,8 @@ use Rattle.rx_objects.specs.Place.{shown}
 use Rattle.rx_objects.proofs.Fitting.{none_new}
 use Rattle.rx_activities.specs.declared.hand.Hand.{Hand}
 use Rattle.rx_activities.specs.declared.hand.Journey.{Journey}
-use Rattle.rx_activities.specs.Knowing.{IsOfRun, IsNewSeat, Knows}
-use Rattle.rx_activities.specs.Starting.{ComesSo, Comes}
+use Rattle.rx_activities.specs.Knowing.{IsOfRun, IsNewSeat, ActivityInvariant}
+use Rattle.rx_activities.specs.Starting.{ComesSo, TravellerInvariant}
 use Rattle.rx_activities.specs.Inside.Births.{IsWith}
 use Rattle.rx_activities.specs.Inside.Sending.{IsReplied}
 use Rattle.rx_activities.proofs.Later.{entries_more, told_stays}
@@ -141,7 +141,7 @@ answers_arrival T es q (NotYet place request) es' who is a = must_wait T place q
 answers_arrival T es q (Lost place at) es' who is a = tt
 answers_arrival T es q (NoMemory request) es' who is a = tt
 
-applied_arrival : (k k' : Kept) (q : Request) (r : Reply) (who : Caller) → q ≡ arrival who → Applied k q r k' → Arrivals r
+applied_arrival : (k k' : KeeperView) (q : Request) (r : Reply) (who : Caller) → q ≡ arrival who → Applied k q r k' → Arrivals r
 applied_arrival k k' q (Opened ticket scope) who is a = answers_arrival _ _ q (Opened ticket scope) k'.entries who is a.answers
 applied_arrival k k' q (CalledOut ticket callee) who is a = answers_arrival _ _ q (CalledOut ticket callee) k'.entries who is a.answers
 applied_arrival k k' q (Spawned ticket child) who is a = answers_arrival _ _ q (Spawned ticket child) k'.entries who is a.answers
@@ -170,7 +170,7 @@ apart who (e ∷ es) h = (h.0, apart who es h.1)
 
 -- Where it has landed.
 
-module _ (L : BookName LedgerFixed) (j : Journey) (comes : Comes L j) (seat : Pass EventItem) (new : IsNewSeat L (landing j.ticket.place) seat) (op : LedgerOp) (is : op.request ≡ arrival j.ticket)
+module _ (L : BookName LedgerFixed) (j : Journey) (comes : TravellerInvariant L j) (seat : Pass EventItem) (new : IsNewSeat L (landing j.ticket.place) seat) (op : LedgerOp) (is : op.request ≡ arrival j.ticket)
     (same : op.mentions.before.value ≡ op.mentions.now.value) (own_seat : op.mentions.seat.value ≡ seat) (ticket : Caller) (w : Pass EntryItem) (word : word_of w ≡ word_of j.pass)
     (replied : IsReplied L.fixed (view_of j.pass) op (Landed ticket) (view_of w)) where
   abbrev f : LedgerFixed
@@ -185,10 +185,10 @@ module _ (L : BookName LedgerFixed) (j : Journey) (comes : Comes L j) (seat : Pa
   abbrev c : Called shown (LedgerDoes L.fixed) (LedgerIsLegal L.fixed) (view_of j.pass) op replied.answer (view_of w)
   c = replied.called
 
-  abbrev was : Kept
+  abbrev was : KeeperView
   was = calls.was f there z op replied.answer c j.pass.own
 
-  abbrev now : Kept
+  abbrev now : KeeperView
   now = calls.now f there z op replied.answer c j.pass.own
 
   abbrev applied : Answered was op.request replied.answer.reply now
@@ -300,7 +300,7 @@ module _ (L : BookName LedgerFixed) (j : Journey) (comes : Comes L j) (seat : Pa
         }
 
   -- the task knows what it has to
-  pub landed_knows : (a : Hand) → IsWith j.control.value (landing j.ticket.place) w seat (Running ticket) [] a → Knows L a
+  pub landed_knows : (a : Hand) → IsWith j.control.value (landing j.ticket.place) w seat (Running ticket) [] a → ActivityInvariant L a
   landed_knows a o =
       let n = comes.inside in
       let m = calls.more_places f there z op replied.answer c j.pass.own in

@@ -5,7 +5,7 @@ use Rattle.std.proofs.lemmas.Option.{same_Some}
 use Rattle.rx_rules.proofs.Common.{TaskId, Block, tree_of, Given, Folds}
 use Rattle.rx_rules.specs.declared.entries.Entry.{Entry}
 use Rattle.rx_rules.specs.declared.entries.Entry.TheVariants.{Step, Root, Death, Join}
-use Rattle.rx_sound.specs.Sound.{Each}
+use Rattle.rx_tree_laws.specs.Sound.{Each}
 use Rattle.rx_history.specs.Setups.{given}
 use Rattle.rx_history.specs.declared.asks.Ask.TheVariants.{Open as AskOpen, Release as AskRelease}
 use Rattle.rx_finish.specs.declared.ledger.Caller.{Caller}
@@ -20,8 +20,8 @@ use Rattle.rx_book.specs.declared.views.Stamped.{Stamped}
 use Rattle.rx_book.specs.declared.passes.Pass.{Pass}
 use Rattle.rx_book.specs.Passes.{view_of}
 use Rattle.rx_book.specs.Named.{BookName}
-use Rattle.rx_sound.specs.Held.{is_held}
-use Rattle.rx_sound.specs.Spine.{Spine}
+use Rattle.rx_tree_laws.specs.Held.{is_held}
+use Rattle.rx_tree_laws.specs.Spine.{Spine}
 use Rattle.rx_parts.specs.Ledger.{LedgerItem, LegalLedger}
 use Rattle.rx_parts.specs.Growing.{NoneBy}
 use Rattle.rx_parts.specs.declared.items.EntryItem.{EntryItem}
@@ -34,7 +34,7 @@ use Rattle.rx_parts.proofs.Growing.{task-stays}
 use Rattle.rx_objects.proofs.Fitting.{others_spare}
 use Rattle.rx_objects.proofs.Staying.{entries_same}
 use Rattle.rx_activities.specs.declared.hand.Hand.{Hand}
-use Rattle.rx_activities.specs.Knowing.{StandsSo, Serves, kinds_told}
+use Rattle.rx_activities.specs.Knowing.{StandsSo, TicketServes, kinds_told}
 use Rattle.rx_activities.proofs.Calling.{with_pass}
 
 -- the scopes of a task stay where all entries are of others
@@ -54,7 +54,7 @@ pub told_stays : (t : TaskId) (es more : List Entry) → Each (NotBy t) more →
 told_stays t es more h = own_append t [] es more ∙ own_stays t (own_told es t) more h
 
 -- a ticket serves as before where its task has appended nothing
-pub serves_later : (U : Given) (es more : List Entry) (waits : Bool) (ticket : AnyTicket) → Folds U (es ++ more) → Each (NotOf ticket) more → length (es ++ more) + 1 < 2 ^ 31 → NumbersAreLeft → Serves (tree_of U.places es) waits ticket → Serves (tree_of U.places (es ++ more)) waits ticket
+pub serves_later : (U : Given) (es more : List Entry) (waits : Bool) (ticket : AnyTicket) → Folds U (es ++ more) → Each (NotOf ticket) more → length (es ++ more) + 1 < 2 ^ 31 → NumbersAreLeft → TicketServes (tree_of U.places es) waits ticket → TicketServes (tree_of U.places (es ++ more)) waits ticket
 serves_later U es more waits (Moving who) folds none short left s = absurd s
 serves_later U es more waits (Running who) folds none short left s =
     (s.0, (tickets_stay_good U es more (record { ticket = Running who; ask = AskOpen; batch = []; path = Some [] }) folds none (left U.places (es ++ more) short) (s.1, tt)).0)
@@ -143,7 +143,7 @@ module _ (code : Block) (L : BookName LedgerFixed) (a : Hand) (t : TaskId) (s : 
         held = s.held;
         calm = s.calm;
         spine = subst (Spine s.stand.term) (sym (ap (λ (h : List (Stamped EntryItem)). kinds_told (entries_at h) t) seen ∙ kinds_later)) s.spine;
-        serves = to (λ es. length es + 1 < 2 ^ 31 → Serves (tree_of places es) (is_held s.stand.term) a.ticket)
+        serves = to (λ es. length es + 1 < 2 ^ 31 → TicketServes (tree_of places es) (is_held s.stand.term) a.ticket)
             (λ short. serves_later U (entries_at g) (entries_at more) (is_held s.stand.term) a.ticket folds spared short numbers_are_left (s.serves (let n = length-append (entries_at g) (entries_at more) in omega (arith, n, short))));
       }
 

@@ -18,7 +18,7 @@ use Rattle.rx_book.specs.Named.{BookName}
 use Rattle.rx_book.specs.Calls.{Called}
 use Rattle.rx_ledger.specs.declared.asks.Reply.{Reply}
 use Rattle.rx_ledger.specs.Told.{due_entries}
-use Rattle.rx_ledger.specs.Kept.{Kept, Applied}
+use Rattle.rx_ledger.specs.Kept.{KeeperView, Applied}
 use Rattle.rx_parts.specs.Ledger.{LedgerItem}
 use Rattle.rx_parts.specs.Growing.{NoneBy}
 use Rattle.rx_parts.specs.Calling.{AllHostItems}
@@ -62,10 +62,10 @@ module _ (shape : Shape) (L : BookName LedgerFixed) (rest : Hand) (reply : Reply
   abbrev pub lines : List Entry
   lines = entries_in (items_of (g ++ called.between))
 
-  abbrev pub before : Kept
+  abbrev pub before : KeeperView
   before = record { setup = L.fixed.setup; entries = entries_in (items_of (g ++ called.between)); behind = called.replied.behind }
 
-  abbrev pub behind : Kept
+  abbrev pub behind : KeeperView
   behind = record { setup = L.fixed.setup; entries = entries_in (items_of (g ++ called.between)) ++ called.replied.new; behind = called.replied.behind' }
 
   pub applied : Applied before w.op.request reply behind

@@ -24,9 +24,9 @@ use Rattle.rx_ledger.specs.Answering.{asker, MustWait, task, host}
 use Rattle.rx_ledger.specs.Asking.{IsHeld, MayAskFor, MayApply}
 use Rattle.rx_ledger.specs.Kept.{Answered}
 use Rattle.rx_ledger.specs.Owned.{own_told}
-use Rattle.rx_sound.specs.Held.{is_held}
-use Rattle.rx_sound.specs.Spine.{Spine}
-use Rattle.rx_sound.proofs.Granting.{release_held}
+use Rattle.rx_tree_laws.specs.Held.{is_held}
+use Rattle.rx_tree_laws.specs.Spine.{Spine}
+use Rattle.rx_tree_laws.proofs.Granting.{release_held}
 use Rattle.rx_parts.specs.Ledger.{LedgerItem, Actor, Walks, LegalLedger, main_actor}
 use Rattle.rx_parts.specs.Growing.{NoneBy}
 use Rattle.rx_parts.specs.Calling.{AllHostItems}
@@ -41,7 +41,7 @@ use Rattle.rx_objects.specs.Ending.{entries_at}
 use Rattle.rx_objects.proofs.Staying.{item_by, all_hosts, cancel}
 use Rattle.rx_activities.specs.declared.hand.Hand.{Hand}
 use Rattle.rx_activities.specs.declared.replies.Child.{Child}
-use Rattle.rx_activities.specs.Knowing.{StandsSo, Knows, Serves, since, entries_seen, kinds_told}
+use Rattle.rx_activities.specs.Knowing.{StandsSo, ActivityInvariant, TicketServes, since, entries_seen, kinds_told}
 use Rattle.rx_activities.specs.Inside.Births.{IsWith}
 use Rattle.rx_activities.specs.Inside.Sending.{SuitsStep, WasSent}
 use Rattle.rx_activities.proofs.Granted.{none_since}
@@ -63,7 +63,7 @@ asks_release : (d : Does) (T : Tree) (place : PlaceId) (q : Request) → MustWai
 asks_release d T place q (task who asks u h) f = (ap (λ (z : Request). z.ask) asks, subst (λ (z : Ask). SuitsStep d z) (ap (λ (z : Request). z.ask) asks) f)
 asks_release d T place q (host asks h) f = absurd (subst (λ (z : Ask). SuitsStep d z) (ap (λ (z : Request). z.ask) asks) f)
 
-held_serves : (T : Tree) (ticket : AnyTicket) → IsHeld ticket (MayAskRelease T) → Serves T true ticket
+held_serves : (T : Tree) (ticket : AnyTicket) → IsHeld ticket (MayAskRelease T) → TicketServes T true ticket
 held_serves T (Moving who) h = absurd h
 held_serves T (Running who) h = absurd h
 held_serves T (Held who) h = (refl, h)
@@ -137,14 +137,14 @@ module _ (shape : Shape) (L : BookName LedgerFixed) (rest : Hand) (child : Optio
     seen_so : (P : View EntryItem → Type 0) → P (view_of rest.pass) → P (view_of h.pass)
     seen_so P x = subst P (sym is.view) x
 
-    serves_now : length now + 1 < 2 ^ 31 → Serves (tree_of L.fixed.setup.places now) (is_held s.stand.term) request.ticket
+    serves_now : length now + 1 < 2 ^ 31 → TicketServes (tree_of L.fixed.setup.places now) (is_held s.stand.term) request.ticket
     serves_now few =
         let T = tree_of L.fixed.setup.places now in
         let may : MayApply (tree_of L.fixed.setup.places now) request =
         goes_on shape L rest (NotYet place request) child w program code stands s answer [] (answer.answers.2 ∙ sym (append-nil (lines shape L rest (NotYet place request) child w ++ due_entries answer.due))) few in
         let ask : request.ask ≡ AskRelease = ap (λ (z : Request). z.ask) same ∙ releases.0 in
         let held : MayAskFor (tree_of L.fixed.setup.places now) request.ticket request.path AskRelease = subst (λ (x : Ask). MayAskFor (tree_of L.fixed.setup.places now) request.ticket request.path x) ask may in
-        subst (λ (b : Bool). Serves (tree_of L.fixed.setup.places now) b request.ticket) (sym waits) (held_serves (tree_of L.fixed.setup.places now) request.ticket held.0)
+        subst (λ (b : Bool). TicketServes (tree_of L.fixed.setup.places now) b request.ticket) (sym waits) (held_serves (tree_of L.fixed.setup.places now) request.ticket held.0)
 
     pub stands_back : StandsSo code L h w.knows.who.task
     stands_back =
@@ -178,11 +178,11 @@ module _ (shape : Shape) (L : BookName LedgerFixed) (rest : Hand) (child : Optio
           calm = λ e. none_new;
           spine = seen_so (λ (x : View EntryItem). Spine s.stand.term (kinds_told (entries_at x.seen) w.knows.who.task))
               (subst (Spine s.stand.term) (sym (kinds_now shape L rest (NotYet place request) child w program code stands s (own_told (entries_seen w.hand.pass) w.knows.who.task) (own_now shape L rest (NotYet place request) child w program code stands s))) s.spine);
-          serves = subst (λ (y : AnyTicket). length (entries_at (view_of h.pass).seen) + 1 < 2 ^ 31 → Serves (tree_of L.fixed.setup.places (entries_at (view_of h.pass).seen)) (is_held s.stand.term) y) (sym is.ticket_is)
-              (seen_so (λ (x : View EntryItem). length (entries_at x.seen) + 1 < 2 ^ 31 → Serves (tree_of L.fixed.setup.places (entries_at x.seen)) (is_held s.stand.term) request.ticket) serves_now);
+          serves = subst (λ (y : AnyTicket). length (entries_at (view_of h.pass).seen) + 1 < 2 ^ 31 → TicketServes (tree_of L.fixed.setup.places (entries_at (view_of h.pass).seen)) (is_held s.stand.term) y) (sym is.ticket_is)
+              (seen_so (λ (x : View EntryItem). length (entries_at x.seen) + 1 < 2 ^ 31 → TicketServes (tree_of L.fixed.setup.places (entries_at x.seen)) (is_held s.stand.term) request.ticket) serves_now);
         }
 
-  pub knows_back : Knows L h
+  pub knows_back : ActivityInvariant L h
   knows_back =
       knows_with shape L rest (NotYet place request) child w rest.control.value request.ticket request.batch h is w.knows.who (ap (λ (z : Request). asker z.ticket) same ∙ (ap asker w.ticket ∙ w.knows.asks)) refl refl
       (λ code stands s. stands_back code stands s)

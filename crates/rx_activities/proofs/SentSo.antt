@@ -9,7 +9,7 @@ use Rattle.rx_rules.specs.declared.entries.Entry.{Entry}
 use Rattle.rx_rules.specs.declared.entries.Entry.TheVariants.{Step}
 use Rattle.rx_rules.specs.declared.tasks.Where.TheVariants.{At as Stays}
 use Rattle.rx_rules.specs.Plays.{Fits}
-use Rattle.rx_sound.specs.Sound.{Each}
+use Rattle.rx_tree_laws.specs.Sound.{Each}
 use Rattle.rx_syntax.specs.Shape.{Shape, Stands}
 use Rattle.rx_control.specs.declared.control.Control.{Control}
 use Rattle.rx_history.specs.Next.{next_of}
@@ -52,7 +52,7 @@ use Rattle.rx_objects.proofs.Fitting.{others_spare}
 use Rattle.rx_objects.proofs.Staying.{item_by, entries_same}
 use Rattle.rx_activities.specs.declared.hand.Hand.{Hand}
 use Rattle.rx_activities.specs.declared.replies.Child.{Child}
-use Rattle.rx_activities.specs.Knowing.{IsOfRun, IsSeatAt, StandsSo, Knows, entries_seen, tree_seen}
+use Rattle.rx_activities.specs.Knowing.{IsOfRun, IsSeatAt, StandsSo, ActivityInvariant, entries_seen, tree_seen}
 use Rattle.rx_activities.specs.Inside.Births.{IsWith}
 use Rattle.rx_activities.specs.Inside.Sending.{SuitsStep, WasSent}
 use Rattle.rx_activities.proofs.Asked.{may_apply, holds}
@@ -207,7 +207,7 @@ module _ (shape : Shape) (L : BookName LedgerFixed) (rest : Hand) (reply : Reply
         }
 
     pub knows_with : (who : Caller) → asker ticket ≡ Some who → who.task ≡ w.knows.who.task → who.place ≡ w.knows.who.place
-        → ((code : Block) → Stands L.fixed.program.script code → StandsSo code L w.hand w.knows.who.task → StandsSo code L h w.knows.who.task) → Knows L h
+        → ((code : Block) → Stands L.fixed.program.script code → StandsSo code L w.hand w.knows.who.task → StandsSo code L h w.knows.who.task) → ActivityInvariant L h
     knows_with who asks task place so =
         record {
           who = who;

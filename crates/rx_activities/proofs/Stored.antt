@@ -22,14 +22,14 @@ use Rattle.rx_book.specs.declared.passes.Pass.{Pass}
 use Rattle.rx_book.specs.History.{items_of, stamped, stamp_all, entries_by}
 use Rattle.rx_book.specs.Passes.{view_of, word_of}
 use Rattle.rx_book.specs.Named.{BookName}
-use Rattle.rx_book.specs.Calls.{Begins, Called, Looked}
+use Rattle.rx_book.specs.Calls.{BeginsWithSeen, Called, Looked}
 use Rattle.rx_book.proofs.History.{entries_by-append}
 use Rattle.rx_base.proofs.Prefixes.{prefix-self}
 use Rattle.rx_ledger.proofs.StaysGood.{places_more}
-use Rattle.rx_sound.specs.Held.{is_held, HeldInFront}
+use Rattle.rx_tree_laws.specs.Held.{is_held, HeldInFront}
 use Rattle.rx_store.proofs.StoreCalls.{IsCall}
-use Rattle.rx_sound.proofs.SpineGrants.{begun_is}
-use Rattle.rx_sound.proofs.Granting.{not_held}
+use Rattle.rx_tree_laws.proofs.SpineGrants.{begun_is}
+use Rattle.rx_tree_laws.proofs.Granting.{not_held}
 use Rattle.rx_parts.specs.Ledger.{LedgerItem, Walks}
 use Rattle.rx_parts.specs.Places.{MadeEvent, LegalPlace, journal_of, seen_by}
 use Rattle.rx_parts.specs.Closing.{StampedTo}
@@ -55,11 +55,11 @@ use Rattle.rx_objects.specs.Place.{events_in, last_carried, PlaceIsLegal, PlaceD
 use Rattle.rx_objects.proofs.Begins.{place_begins}
 use Rattle.rx_objects.proofs.Places.{journal_same, carried_same, carried_push, top_same, prefix_items}
 use Rattle.rx_activities.specs.declared.hand.Hand.{Hand}
-use Rattle.rx_activities.specs.Knowing.{StandsSo, Knows, IsOfRun, Serves, since, kinds_told, entries_seen, tree_seen}
+use Rattle.rx_activities.specs.Knowing.{StandsSo, ActivityInvariant, IsOfRun, TicketServes, since, kinds_told, entries_seen, tree_seen}
 use Rattle.rx_activities.specs.Inside.Answered.{PartsAre}
-use Rattle.rx_sound.proofs.Granting.{answer_waits}
-use Rattle.rx_sound.proofs.SpineGrants.{answer_spine}
-use Rattle.rx_sound.proofs.Beginning.{begun_one}
+use Rattle.rx_tree_laws.proofs.Granting.{answer_waits}
+use Rattle.rx_tree_laws.proofs.SpineGrants.{answer_spine}
+use Rattle.rx_tree_laws.proofs.Beginning.{begun_one}
 use Rattle.rx_runs.proofs.Knowing.{answer_knows}
 use Rattle.rx_runs.proofs.SomeWords.{some-answered}
 use Rattle.rx_activities.proofs.Calling.{fixed_at, op_of, with_pass, walk_up, looked_stands, looked_stand, call_is}
@@ -70,7 +70,7 @@ abbrev pub stored : Hand → Box Control → List (List ℕ) → Pass EntryItem 
 stored a c batch p seat = record a { control = c; batch = batch; made = true; pass = p; seat = seat }
 
 -- The task of activity a, which looked at the ledger's word, has called the store.
-module _ (L : BookName LedgerFixed) (a : Hand) (k : Knows L a) (q : Pass EntryItem) (word : word_of q ≡ word_of a.pass) (l : Looked (view_of a.pass) (view_of q)) (words n : ℕ) (x : List ℕ) (op : CellOp) (above : (view_of a.pass).reach ≤ n)
+module _ (L : BookName LedgerFixed) (a : Hand) (k : ActivityInvariant L a) (q : Pass EntryItem) (word : word_of q ≡ word_of a.pass) (l : Looked (view_of a.pass) (view_of q)) (words n : ℕ) (x : List ℕ) (op : CellOp) (above : (view_of a.pass).reach ≤ n)
     (place : EventItem → Option ℕ) (answer : Result (Option Value) Fault) (p : Pass EntryItem) (seat : Pass EventItem)
     (called : Called place (PlaceDoes (fixed_at L a words)) (PlaceIsLegal (fixed_at L a words)) (view_of a.seat) (op_of k.who.task n x op q) (Answered answer p) (view_of seat)) where
   abbrev U : Given
@@ -115,7 +115,7 @@ module _ (L : BookName LedgerFixed) (a : Hand) (k : Knows L a) (q : Pass EntryIt
       others-between v.number v.seen called.between called.added
       (ap (λ (xs : List (Stamped EventItem)). xs ++ stamp_all v.number called.added) (sym a.seat.own) ∙ (sym called.more ∙ (called.own ∙ ap (entries_by v.number) called.whole)))
 
-  begins_log : Begins place v log
+  begins_log : BeginsWithSeen place v log
   begins_log =
       record {
         prefix = (called.between, refl);
@@ -215,7 +215,7 @@ module _ (L : BookName LedgerFixed) (a : Hand) (k : Knows L a) (q : Pass EntryIt
           held = waits.0;
           calm = λ yes. absurd (let no : true ≡ false = sym yes ∙ waits.1 in cc);
           spine = answer_spine ans s.stand.term (kinds_told (entries_seen p) t) s.spine (begun_is s.stand.term x path);
-          serves = λ short. subst (λ (b : Bool). Serves (tree_seen L.fixed p) b a.ticket) (free ∙ sym waits.1) (s.serves short);
+          serves = λ short. subst (λ (b : Bool). TicketServes (tree_seen L.fixed p) b a.ticket) (free ∙ sym waits.1) (s.serves short);
         }
 
   -- what the activity knew it knows with the pass that came back
@@ -236,7 +236,7 @@ module _ (L : BookName LedgerFixed) (a : Hand) (k : Knows L a) (q : Pass EntryIt
       → ((t : Term) → StandsFor L.fixed.program.script a.control.value t → CellStep op ≡ next_of (does a.control.value.vars a.place.0 t))
       → ((t : Term) → StandsFor L.fixed.program.script a.control.value t → begins t ≡ Some x)
       → ((t : Term) (y : List ℕ) → StandsFor L.fixed.program.script a.control.value t → begins t ≡ Some y → StandsFor L.fixed.program.script c.value (answered (answer_of (receives t) answer) t) × (c.value.vars ≡ vars_after (answer_of (receives t) answer) a.control.value.vars))
-      → batch ≡ a.batch ++ x ∷ [] → Knows L (stored a c batch p seat)
+      → batch ≡ a.batch ++ x ∷ [] → ActivityInvariant L (stored a c batch p seat)
   stored_knows sink c batch own next path took made =
       record {
         who = k.who;

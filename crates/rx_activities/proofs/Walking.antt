@@ -1,27 +1,27 @@
 -- What an activity knows after a local step, and after a look at the ledger's word.
 use Rattle.std.proofs.Common.{◌≡◌, ◌≤◌, ℕ, Bool, true, false, List, [], refl, ap, sym, ◌∙◌, subst}
-use Rattle.rx_rules.proofs.Common.{PlaceId, TaskId, Block, opening_state, Term, Vars, Does, Local, Releases, does, Cells, begun, Player, Goes, local as goes_by, stays as goes_none}
+use Rattle.rx_rules.proofs.Common.{PlaceId, TaskId, Block, opening_state, Term, Vars, Does, Local, Releases, does, Cells, begun, Player, RunsWithoutEntry, local as goes_by, stays as goes_none}
 use Rattle.rx_runs.specs.Segments.{Stand}
 use Rattle.rx_runs.proofs.SomeWords.{goes_some}
 use Rattle.rx_runs.proofs.Knowing.{local_knows}
 use Rattle.rx_syntax.specs.Shape.{Stands}
 use Rattle.std.specs.Global.{Box}
 use Rattle.rx_control.specs.declared.control.Control.{Control}
-use Rattle.rx_control.specs.Stands.{StandsFor, Leaves}
+use Rattle.rx_control.specs.Stands.{StandsFor, AfterLocalStep}
 use Rattle.rx_history.specs.declared.step.Next.TheVariants.{Local as LocalStep}
 use Rattle.rx_history.specs.Next.{next_of}
 use Rattle.rx_plan.proofs.Told.{told_local}
 use Rattle.rx_check.specs.Checked.{Checked}
 use Rattle.rx_book.specs.Named.{BookName}
-use Rattle.rx_sound.specs.Held.{is_held}
-use Rattle.rx_sound.proofs.Holding.{AfterLocal, after-local}
-use Rattle.rx_sound.proofs.Spines.{LeavesSpine, spine-local}
-use Rattle.rx_sound.proofs.Granting.{not_held}
+use Rattle.rx_tree_laws.specs.Held.{is_held}
+use Rattle.rx_tree_laws.proofs.Holding.{AfterLocal, after-local}
+use Rattle.rx_tree_laws.proofs.Spines.{LeavesSpine, spine-local}
+use Rattle.rx_tree_laws.proofs.Granting.{not_held}
 use Rattle.rx_parts.specs.Ledger.{Walks, stays, local, stores}
 use Rattle.rx_objects.specs.declared.ledger.LedgerFixed.{LedgerFixed}
 use Rattle.rx_activities.specs.declared.hand.Hand.{Hand}
-use Rattle.rx_activities.specs.Knowing.{StandsSo, Knows, kinds_told, entries_seen, tree_seen, Serves}
-use Rattle.rx_activities.specs.Turning.{IsKnown, StaysKnown}
+use Rattle.rx_activities.specs.Knowing.{StandsSo, ActivityInvariant, kinds_told, entries_seen, tree_seen, TicketServes}
+use Rattle.rx_activities.specs.Turning.{BelongsToRun, StaysKnown}
 use Rattle.rx_activities.specs.Inside.Stepping.{OnlySteps}
 
 -- the activity with another control and batch
@@ -63,7 +63,7 @@ stands_local code L a t s c batch after left e term vars made =
     let free : is_held s.stand.term ≡ false = not_held s.stand.vars a.place.0 s.stand.term (λ f. (let k : Local after left ≡ Releases = sym e ∙ f in cc)) in
     let p : Player = record { term = s.stand.term; vars = s.stand.vars; batch = [] } in
     let q : Player = record { term = after; vars = left; batch = begun s.stand.term [] } in
-    let one : Goes 0 0 t a.place p opening_state [] q opening_state [] = goes_by e goes_none in
+    let one : RunsWithoutEntry 0 0 t a.place p opening_state [] q opening_state [] = goes_by e goes_none in
     record {
       legal = s.legal;
       actor = s.actor;
@@ -84,13 +84,13 @@ stands_local code L a t s c batch after left e term vars made =
       held = waits.0;
       calm = λ yes. absurd (let no : true ≡ false = sym yes ∙ waits.1 in cc);
       spine = spine;
-      serves = λ short. subst (λ (b : Bool). Serves (tree_seen L.fixed a.pass) b a.ticket) (free ∙ sym waits.1) (s.serves short);
+      serves = λ short. subst (λ (b : Bool). TicketServes (tree_seen L.fixed a.pass) b a.ticket) (free ∙ sym waits.1) (s.serves short);
     }
 
 -- each hand that knows keeps knowing
-pub knows_local : (L : BookName LedgerFixed) (a b : Hand) → Knows L a → OnlySteps a b → ((code : Block) → Stands L.fixed.program.script code → (t : TaskId) → StandsSo code L a t → StandsSo code L (stepped a b.control b.batch) t) → Knows L b
+pub knows_local : (L : BookName LedgerFixed) (a b : Hand) → ActivityInvariant L a → OnlySteps a b → ((code : Block) → Stands L.fixed.program.script code → (t : TaskId) → StandsSo code L a t → StandsSo code L (stepped a b.control b.batch) t) → ActivityInvariant L b
 knows_local L a b k o go =
-    subst (Knows L) (sym (is_stepped a b o)) (record {
+    subst (ActivityInvariant L) (sym (is_stepped a b o)) (record {
       who = k.who;
       asks = k.asks;
       is_at = k.is_at;
@@ -103,32 +103,32 @@ knows_local L a b k o go =
     })
 
 -- a local step was made
-pub made_local : (L : BookName LedgerFixed) (a b : Hand) → Knows L a → OnlySteps a b
+pub made_local : (L : BookName LedgerFixed) (a b : Hand) → ActivityInvariant L a → OnlySteps a b
     → ((t : Term) → StandsFor L.fixed.program.script a.control.value t → LocalStep ≡ next_of (does a.control.value.vars a.place.0 t))
-    → ((t : Term) → StandsFor L.fixed.program.script a.control.value t → Leaves L.fixed.program.script b.control.value (does a.control.value.vars a.place.0 t) × (b.batch ≡ begun t a.batch)) → Knows L b
+    → ((t : Term) → StandsFor L.fixed.program.script a.control.value t → AfterLocalStep L.fixed.program.script b.control.value (does a.control.value.vars a.place.0 t) × (b.batch ≡ begun t a.batch)) → ActivityInvariant L b
 made_local L a b k o next made =
     knows_local L a b k o (λ code stands t s.
     let n : next_of (does s.stand.vars a.place.0 s.stand.term) ≡ LocalStep = ap (λ (v : Vars). next_of (does v a.place.0 s.stand.term)) (sym s.vars) ∙ sym (next s.stand.term s.term) in
     let l = told_local (does s.stand.vars a.place.0 s.stand.term) n in
     let did = made s.stand.term s.term in
-    let leaves : Leaves L.fixed.program.script b.control.value (does s.stand.vars a.place.0 s.stand.term) = subst (λ (v : Vars). Leaves L.fixed.program.script b.control.value (does v a.place.0 s.stand.term)) s.vars did.0 in
-    let left : StandsFor L.fixed.program.script b.control.value l.0 × (b.control.value.vars ≡ l.1) = subst (λ (d : Does). Leaves L.fixed.program.script b.control.value d) l.2 leaves in
+    let leaves : AfterLocalStep L.fixed.program.script b.control.value (does s.stand.vars a.place.0 s.stand.term) = subst (λ (v : Vars). AfterLocalStep L.fixed.program.script b.control.value (does v a.place.0 s.stand.term)) s.vars did.0 in
+    let left : StandsFor L.fixed.program.script b.control.value l.0 × (b.control.value.vars ≡ l.1) = subst (λ (d : Does). AfterLocalStep L.fixed.program.script b.control.value d) l.2 leaves in
     stands_local code L a t s b.control b.batch l.0 l.1 l.2 left.0 left.1 did.1)
 
 -- in each run of the program
 pub stays_known : (p : Checked) (a b : Hand) → OnlySteps a b
     → ((t : Term) → StandsFor p.script a.control.value t → LocalStep ≡ next_of (does a.control.value.vars a.place.0 t))
-    → ((t : Term) → StandsFor p.script a.control.value t → Leaves p.script b.control.value (does a.control.value.vars a.place.0 t) × (b.batch ≡ begun t a.batch)) → StaysKnown p a b
+    → ((t : Term) → StandsFor p.script a.control.value t → AfterLocalStep p.script b.control.value (does a.control.value.vars a.place.0 t) × (b.batch ≡ begun t a.batch)) → StaysKnown p a b
 stays_known p a b o next made L program k =
     made_local L a b k o (λ t s. next t (subst (λ (q : Checked). StandsFor q.script a.control.value t) program s))
-    (λ t s. let d = made t (subst (λ (q : Checked). StandsFor q.script a.control.value t) program s) in (subst (λ (q : Checked). Leaves q.script b.control.value (does a.control.value.vars a.place.0 t)) (sym program) d.0, d.1))
+    (λ t s. let d = made t (subst (λ (q : Checked). StandsFor q.script a.control.value t) program s) in (subst (λ (q : Checked). AfterLocalStep q.script b.control.value (does a.control.value.vars a.place.0 t)) (sym program) d.0, d.1))
 
 -- the control of an activity stands for a term
-pub has_term : (p : Checked) (a : Hand) (code : Block) → Stands p.script code → IsKnown p a → (t : Term) × StandsFor p.script a.control.value t
+pub has_term : (p : Checked) (a : Hand) (code : Block) → Stands p.script code → BelongsToRun p a → (t : Term) × StandsFor p.script a.control.value t
 has_term p a code stands k =
     let s = k.2.stands code (subst (λ (q : Checked). Stands q.script code) (sym k.1) stands) in
     (s.stand.term, subst (λ (q : Checked). StandsFor q.script a.control.value s.stand.term) k.1 s.term)
 
 -- what was known of an activity is known of it when it has gone on
-pub known_on : (p : Checked) (a b : Hand) → StaysKnown p a b → IsKnown p a → IsKnown p b
+pub known_on : (p : Checked) (a b : Hand) → StaysKnown p a b → BelongsToRun p a → BelongsToRun p b
 known_on p a b on k = (k.0, k.1, on k.0 k.1 k.2)

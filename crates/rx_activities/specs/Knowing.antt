@@ -25,8 +25,8 @@ use Rattle.rx_book.specs.Passes.{view_of, word_of}
 use Rattle.rx_book.specs.Named.{BookName}
 use Rattle.rx_ledger.specs.Answering.{asker}
 use Rattle.rx_ledger.specs.Owned.{own_told}
-use Rattle.rx_sound.specs.Held.{is_held, HeldInFront}
-use Rattle.rx_sound.specs.Spine.{Spine}
+use Rattle.rx_tree_laws.specs.Held.{is_held, HeldInFront}
+use Rattle.rx_tree_laws.specs.Spine.{Spine}
 use Rattle.rx_parts.specs.Ledger.{Actor, Present, Walks, LegalLedger}
 use Rattle.rx_parts.specs.declared.items.EntryItem.{EntryItem}
 use Rattle.rx_parts.specs.declared.items.EventItem.{EventItem}
@@ -70,11 +70,11 @@ abbrev pub kinds_told : List Entry → TaskId → List Kind
 kinds_told es t = reverse (map (λ s. s.1) (own_told es t))
 
 -- the ticket is of a task that may go on, or of one that waits at a scope and may ask for its release
-abbrev pub Serves : Tree → Bool → AnyTicket → Type 0
-Serves T waits (Moving who) = ⊥
-Serves T waits (Running who) = (waits ≡ false) × MayAskMoving T who
-Serves T waits (Held who) = (waits ≡ true) × MayAskRelease T who
-Serves T waits Host = ⊥
+abbrev pub TicketServes : Tree → Bool → AnyTicket → Type 0
+TicketServes T waits (Moving who) = ⊥
+TicketServes T waits (Running who) = (waits ≡ false) × MayAskMoving T who
+TicketServes T waits (Held who) = (waits ≡ true) × MayAskRelease T who
+TicketServes T waits Host = ⊥
 
 -- By what was seen of the ledger the task is at its place, and the passes have the numbers that hold and seat it. Its events are those
 -- that its entries name, and then those made since. These lead its term to where the control stands, and no stamp is above the number
@@ -101,10 +101,10 @@ pub record StandsSo (code : Block) (L : BookName LedgerFixed) (a : Hand) (t : Ta
   -- a task that waits has made no event since its entry before
   pub calm : is_held stand.term ≡ true → since a ≡ []
   pub spine : Spine stand.term (kinds_told (entries_seen a.pass) t)
-  pub serves : length (entries_seen a.pass) + 1 < 2 ^ 31 → Serves (tree_seen L.fixed a.pass) (is_held stand.term) a.ticket
+  pub serves : length (entries_seen a.pass) + 1 < 2 ^ 31 → TicketServes (tree_seen L.fixed a.pass) (is_held stand.term) a.ticket
 
 -- what an activity at a place knows, whatever statements the script stands for
-pub record Knows (L : BookName LedgerFixed) (a : Hand) : Type 0 where
+pub record ActivityInvariant (L : BookName LedgerFixed) (a : Hand) : Type 0 where
   pub who : Caller
   pub asks : asker a.ticket ≡ Some who
   pub is_at : who.place ≡ Stays a.place

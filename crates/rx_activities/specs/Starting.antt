@@ -16,8 +16,8 @@ use Rattle.rx_book.specs.declared.passes.Pass.{Pass}
 use Rattle.rx_book.specs.Passes.{view_of, word_of}
 use Rattle.rx_ledger.specs.Answering.{main_caller}
 use Rattle.rx_ledger.specs.Owned.{own_told}
-use Rattle.rx_sound.specs.Held.{Unheld}
-use Rattle.rx_sound.specs.Spine.{NoScopeOpen}
+use Rattle.rx_tree_laws.specs.Held.{Unheld}
+use Rattle.rx_tree_laws.specs.Spine.{NoScopeOpen}
 use Rattle.rx_parts.specs.Ledger.{Actor, Away, LegalLedger}
 use Rattle.rx_parts.specs.declared.items.EntryItem.{EntryItem}
 use Rattle.rx_parts.specs.declared.items.EventItem.{EventItem}
@@ -46,7 +46,7 @@ pub record ComesSo (code : Block) (L : BookName LedgerFixed) (j : Journey) : Typ
   pub serves : length (entries_seen j.pass) + 1 < 2 ^ 31 → MayAskArrive (tree_seen L.fixed j.pass) j.ticket
 
 -- what is known of a task on its way, whatever statements the script stands for
-pub record Comes (L : BookName LedgerFixed) (j : Journey) : Type 0 where
+pub record TravellerInvariant (L : BookName LedgerFixed) (j : Journey) : Type 0 where
   pub pass : IsOfRun L j.pass
   pub inside : (landing j.ticket.place).0 < (tree_seen L.fixed j.pass).places
   pub stands : (code : Block) → Stands L.fixed.program.script code → ComesSo code L j

@@ -1,8 +1,8 @@
 // Activities, as queues and mailboxes hold them: what is known of one is known by its type.
 ghost use Rattle.std.specs.Prelude.{◌≡◌, ◌<◌};
 ghost use Rattle.rx_objects.specs.Opened.{PlaceIs};
-ghost use Rattle.rx_activities.specs.Knowing.{IsOfRun, Knows};
-ghost use Rattle.rx_activities.specs.Starting.{IsOpening, Comes};
+ghost use Rattle.rx_activities.specs.Knowing.{IsOfRun, ActivityInvariant};
+ghost use Rattle.rx_activities.specs.Starting.{IsOpening, TravellerInvariant};
 
 use crate::hand::{Hand, Journey, spend};
 use crate::naming::{LedgerPass, Naming};
@@ -47,13 +47,13 @@ pub struct Traveller<N: Naming> {
 impl<N: Naming> Model for Traveller<N> {
     ghost use Rattle.rx_base.specs.declared.ids.PlaceId.{PlaceId};
     ghost use Rattle.rx_finish.specs.Calls.{landing};
-    ghost use Rattle.rx_activities.specs.Starting.{Comes};
+    ghost use Rattle.rx_activities.specs.Starting.{TravellerInvariant};
 
     ghost Value = { PlaceId };
 
     ghost view = { λ t. landing t.journey.ticket.place };
 
-    ghost invariant = { λ t. Comes N.ledger t.journey };
+    ghost invariant = { λ t. TravellerInvariant N.ledger t.journey };
 }
 
 /// An activity that was started.
@@ -175,7 +175,7 @@ pub(crate) fn activity_with<N: Naming>(
     hand: Hand,
     alloc: Global,
 ) -> Result<Activity<N>, LedgerPass<N>>
-    requires { Knows N.ledger hand }
+    requires { ActivityInvariant N.ledger hand }
 {
     match hand.boxed(alloc) {
         Ok(hand) => Ok(activity_of(hand)),
@@ -185,7 +185,7 @@ pub(crate) fn activity_with<N: Naming>(
 
 /// The activity of a hand.
 pub(crate) fn activity_of<N: Naming>(hand: Box<Hand>) -> Activity<N>
-    requires { Knows N.ledger hand.value }
+    requires { ActivityInvariant N.ledger hand.value }
     ensures { result ≡ hand.value.place }
 {
     Activity {
@@ -196,7 +196,7 @@ pub(crate) fn activity_of<N: Naming>(hand: Box<Hand>) -> Activity<N>
 
 /// The traveller with this.
 pub(crate) fn traveller_of<N: Naming>(journey: Journey) -> Traveller<N>
-    requires { Comes N.ledger journey }
+    requires { TravellerInvariant N.ledger journey }
 {
     Traveller {
         journey,

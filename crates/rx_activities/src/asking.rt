@@ -8,7 +8,7 @@ ghost use Rattle.rx_history.specs.Next.{next_of};
 ghost use Rattle.rx_book.specs.Passes.{view_of, word_of};
 ghost use Rattle.rx_objects.specs.Laws.{AsksLedger};
 ghost use Rattle.rx_objects.specs.Opened.{PlaceIs};
-ghost use Rattle.rx_activities.specs.Knowing.{Knows};
+ghost use Rattle.rx_activities.specs.Knowing.{ActivityInvariant};
 ghost use Rattle.rx_activities.specs.Turning.{LeavesHand};
 ghost use Rattle.rx_activities.specs.Inside.Stepping.{IsNext};
 ghost use Rattle.rx_activities.specs.Inside.Sending.{IsCall, SuitsStep, IsReady, target, ChildIs};
@@ -196,7 +196,7 @@ impl Hand {
         requires ledger { L.name ledger.now ≡ N.ledger }
         requires program { (L.name ledger.now).fixed.program ≡ p.now }
         requires place { PlaceIs (L.name ledger.now) self.old.place (P.name place_book.now) }
-        requires known { Knows (L.name ledger.now) self.old }
+        requires known { ActivityInvariant (L.name ledger.now) self.old }
         requires next { IsNext p.now self.old next }
         requires calls { IsCall next }
         ensures { LeavesHand (L.name ledger.now) self.new result }

@@ -3,7 +3,7 @@ ghost use Rattle.std.specs.Prelude.{◌≡◌};
 ghost use Rattle.rx_book.specs.Passes.{view_of, word_of};
 ghost use Rattle.rx_activities.specs.Turning.{LeavesHand};
 ghost use Rattle.rx_activities.specs.Inside.Sending.{WasSent, WasGranted, WasCounted};
-ghost use Rattle.rx_activities.specs.Inside.Births.{IsStarted, Starts, IsWith};
+ghost use Rattle.rx_activities.specs.Inside.Births.{IsStarted, StartsKnowing, IsWith};
 
 use crate::activity::{Began, activity_with, traveller_of};
 use crate::hand::{Hand, Journey, spend};
@@ -254,7 +254,7 @@ fn begin<N: Naming>(
     pass: Pass<EntryItem>,
     seat: Option<Pass<EventItem>>,
 ) -> Result<Began<N>, NoMemory>
-    requires { Starts N.ledger place ticket control.value pass seat }
+    requires { StartsKnowing N.ledger place ticket control.value pass seat }
 {
     match (ticket, seat) {
         (AnyTicket::Moving(ticket), _) => {

@@ -3,8 +3,8 @@ ghost use Rattle.std.specs.Prelude.{◌≡◌, ◌≢◌, Some, IfOk, OnOk};
 ghost use Rattle.rx_rules.specs.Terms.{Term, does, begins};
 ghost use Rattle.rx_rules.specs.Plays.{begun};
 ghost use Rattle.rx_history.specs.declared.step.Next.{Next as Step};
-ghost use Rattle.rx_control.specs.Stands.{StandsFor, Leaves};
-ghost use Rattle.rx_activities.specs.Turning.{IsKnown, StaysKnown};
+ghost use Rattle.rx_control.specs.Stands.{StandsFor, AfterLocalStep};
+ghost use Rattle.rx_activities.specs.Turning.{BelongsToRun, StaysKnown};
 ghost use Rattle.rx_activities.specs.Inside.Stepping.{OnlySteps, IsNext};
 
 use crate::hand::Hand;
@@ -43,7 +43,7 @@ fn local_step(
 ) -> Result<(), NoMemory>
     requires { (t : Term) × StandsFor p.now.script control.old t }
     ensures { OnOk result ((t : Term) → StandsFor p.now.script control.old t
-        → Leaves p.now.script control.new (does control.old.vars here.0 t) × (batch.new ≡ begun t batch.old)) }
+        → AfterLocalStep p.now.script control.new (does control.old.vars here.0 t) × (batch.new ≡ begun t batch.old)) }
 {
     begin(alloc, p, control, batch)?;
     control.local(alloc, p, here)?;
@@ -53,7 +53,7 @@ fn local_step(
 impl Hand {
     // Makes the local step that is next.
     fn local(&mut self, alloc: Global, p: &Program) -> Result<(), NoMemory>
-        requires known { IsKnown p.now self.old }
+        requires known { BelongsToRun p.now self.old }
         requires local { IsNext p.now self.old Step.Local }
         ensures same { OnlySteps self.old self.new }
         ensures known { OnOk result (StaysKnown p.now self.old self.new) }
@@ -71,7 +71,7 @@ impl Hand {
         company: &C,
         pace: &mut Pace,
     ) -> Result<Next, NoMemory>
-        requires known { IsKnown p.now self.old }
+        requires known { BelongsToRun p.now self.old }
         ensures same { OnlySteps self.old self.new }
         ensures known { OnOk result (StaysKnown p.now self.old self.new) }
         ensures next { IfOk result (IsNext p.now self.new) }

@@ -9,7 +9,7 @@ ghost use Rattle.rx_book.specs.Calls.{Looked};
 ghost use Rattle.rx_finish.specs.declared.ledger.Caller.{Caller as Asker};
 ghost use Rattle.rx_ledger.specs.Answering.{asker};
 ghost use Rattle.rx_objects.specs.Opened.{PlaceIs};
-ghost use Rattle.rx_activities.specs.Knowing.{Knows};
+ghost use Rattle.rx_activities.specs.Knowing.{ActivityInvariant};
 ghost use Rattle.rx_activities.specs.Inside.Stepping.{IsNext};
 ghost use Rattle.rx_activities.specs.Inside.Answered.{PartsAre};
 
@@ -104,7 +104,7 @@ impl Hand {
         requires ledger { L.name ledger.now ≡ N.ledger }
         requires program { (L.name ledger.now).fixed.program ≡ p.now }
         requires place { PlaceIs (L.name ledger.now) self.place (P.name place_book.now) }
-        requires known { Knows (L.name ledger.now) self }
+        requires known { ActivityInvariant (L.name ledger.now) self }
         requires next { IsNext p.now self (Step.Cell op) }
     {
         checked(p);

@@ -1,7 +1,7 @@
 // A turn of an activity, from local steps to what it leaves.
 ghost use Rattle.std.specs.Prelude.{◌≡◌};
 ghost use Rattle.rx_objects.specs.Opened.{PlaceIs};
-ghost use Rattle.rx_activities.specs.Knowing.{Knows};
+ghost use Rattle.rx_activities.specs.Knowing.{ActivityInvariant};
 ghost use Rattle.rx_activities.specs.Turning.{LeavesHand};
 
 use crate::activity::{Turn, activity_of, given_up};
@@ -58,7 +58,7 @@ pub(crate) fn make_turn<N: Naming, L: LedgerBook, P: PlaceBook, C: Company, R: W
     requires ledger { L.name ledger.now ≡ N.ledger }
     requires program { (L.name ledger.now).fixed.program ≡ p.now }
     requires place { PlaceIs (L.name ledger.now) hand.value.place (P.name place_book.now) }
-    requires known { Knows (L.name ledger.now) hand.value }
+    requires known { ActivityInvariant (L.name ledger.now) hand.value }
 {
     let mut pace = Pace { steps: 0 };
     let next = match hand.run_on(rt, alloc, p, company, &mut pace) {

@@ -15,7 +15,7 @@ use crate::case::{Case, CaseFault, read_case};
 use crate::lines::{put_span, put_verdict};
 use rx_base::NoMemory;
 use rx_check::checked;
-use rx_laws::each_is_told_once;
+use rx_history_laws::each_is_told_once;
 use rx_span::laws::run_tells_paths;
 use rx_span::span;
 use rx_verdict::{Verdict, run_has_verdict, verdict_is_one, verdict_is_run};

@@ -3,7 +3,7 @@ ghost use Rattle.std.specs.Prelude.{◌≡◌, ◌↔◌, ◌⊎◌, ◌+◌, �
 ghost use Rattle.std.specs.Prelude.{IsErr, IsTrue, Contains};
 ghost use Rattle.std.specs.Io.{ReadsAtMost, WritesAtMost};
 ghost use Rattle.std.specs.Io.KnownBytes.{ReadConsumes, WriteAppends};
-ghost use Rattle.rx_base.specs.Outside.{HasCause, TakesOne};
+ghost use Rattle.rx_base.specs.Outside.{FailureIsCounted, TakesOne};
 
 use crate::{Failed, NoMemory, Sink, Source};
 use std::alloc::Global;
@@ -53,7 +53,7 @@ impl Source for MemSource {
     fn read(&mut self, buf: &mut [u8]) -> Result<usize, Failed>
         ensures bound { ReadsAtMost result buf.new }
         ensures bytes { ReadConsumes (Some self.old.left) (Some self.new.left) result buf.new }
-        ensures cause { HasCause self.old.faults self.new.faults result }
+        ensures cause { FailureIsCounted self.old.faults self.new.faults result }
         ensures exact { IsErr result ↔ Contains self.old.fails self.old.calls }
         ensures whole { IfOk result (λ n. n ≡ min (length self.old.left) (length buf.new)) }
         ensures faults { OnOk result (self.new.faults ≡ self.old.faults) }
@@ -126,7 +126,7 @@ impl Sink for MemSink {
         ensures bound { WritesAtMost result bytes.now }
         ensures bytes { WriteAppends (Some self.old.written) (Some self.new.written) result bytes.now }
         ensures one { TakesOne result bytes.now }
-        ensures cause { HasCause self.old.faults self.new.faults result }
+        ensures cause { FailureIsCounted self.old.faults self.new.faults result }
         ensures exact { IsErr result ↔ (Contains self.old.fails self.old.calls ⊎ ((self.old.room ≡ 0) × (0 < length bytes.now))) }
         ensures whole { IfOk result (λ n. n ≡ min (length bytes.now) self.old.room) }
         ensures room { IfOk result (λ n. self.new.room + n ≡ self.old.room) }

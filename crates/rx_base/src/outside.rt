@@ -2,7 +2,7 @@
 ghost use Rattle.std.specs.Prelude.{◌<◌, ◌≤◌, ℕ, List, Option, length, take, OnOk, OnErr};
 ghost use Rattle.std.specs.Io.{ReadsAtMost, WritesAtMost};
 ghost use Rattle.std.specs.Io.KnownBytes.{ReadConsumes, WriteAppends, Appends};
-ghost use Rattle.rx_base.specs.Outside.{HasCause, TakesOne, Rose};
+ghost use Rattle.rx_base.specs.Outside.{FailureIsCounted, TakesOne, Rose};
 
 use crate::Failed;
 
@@ -18,7 +18,7 @@ pub trait Source {
     fn read(&mut self, buf: &mut [u8]) -> Result<usize, Failed>
         ensures bound { ReadsAtMost result buf.new }
         ensures bytes { ReadConsumes (left self.old) (left self.new) result buf.new }
-        ensures cause { HasCause (faults self.old) (faults self.new) result };
+        ensures cause { FailureIsCounted (faults self.old) (faults self.new) result };
 }
 
 /// What bytes go to.
@@ -34,7 +34,7 @@ pub trait Sink {
         ensures bound { WritesAtMost result bytes.now }
         ensures bytes { WriteAppends (written self.old) (written self.new) result bytes.now }
         ensures one { TakesOne result bytes.now }
-        ensures cause { HasCause (faults self.old) (faults self.new) result };
+        ensures cause { FailureIsCounted (faults self.old) (faults self.new) result };
 }
 
 /// Writes all bytes. After a fault a proper front of them is written.

@@ -2,7 +2,7 @@
 ghost use Rattle.std.specs.Prelude.{◌≡◌, ◌+◌, ◌-◌, ◌^◌, min, OnOk, OnErr};
 ghost use Rattle.std.specs.Io.{ReadsAtMost, WritesAtMost};
 ghost use Rattle.std.specs.Io.KnownBytes.{ReadConsumes, WriteAppends};
-ghost use Rattle.rx_base.specs.Outside.{HasCause, TakesOne};
+ghost use Rattle.rx_base.specs.Outside.{FailureIsCounted, TakesOne};
 
 use crate::{Failed, Sink, Source};
 use std::io::{Read, Write};
@@ -33,7 +33,7 @@ impl<R: Read> Source for StdSource<R> {
     fn read(&mut self, buf: &mut [u8]) -> Result<usize, Failed>
         ensures bound { ReadsAtMost result buf.new }
         ensures bytes { ReadConsumes (R.remaining self.old.reader) (R.remaining self.new.reader) result buf.new }
-        ensures cause { HasCause self.old.faults self.new.faults result }
+        ensures cause { FailureIsCounted self.old.faults self.new.faults result }
         ensures faults { OnOk result (self.new.faults ≡ self.old.faults) }
         ensures counted { OnErr result (self.new.faults ≡ min (self.old.faults + 1) (2 ^ 64 - 1)) }
     {
@@ -75,7 +75,7 @@ impl<W: Write> Sink for StdSink<W> {
         ensures bound { WritesAtMost result bytes.now }
         ensures bytes { WriteAppends (W.contents self.old.writer) (W.contents self.new.writer) result bytes.now }
         ensures one { TakesOne result bytes.now }
-        ensures cause { HasCause self.old.faults self.new.faults result }
+        ensures cause { FailureIsCounted self.old.faults self.new.faults result }
         ensures faults { OnOk result (self.new.faults ≡ self.old.faults) }
         ensures counted { OnErr result (self.new.faults ≡ min (self.old.faults + 1) (2 ^ 64 - 1)) }
     {

@@ -8,7 +8,7 @@ use Rattle.rx_book.specs.declared.views.Stamped.{Stamped}
 use Rattle.rx_book.specs.declared.views.View.{View}
 use Rattle.rx_book.specs.History.{items_of, stamp_all, entries_by, deaths_of}
 use Rattle.rx_book.specs.Kept.{Told, looked, grown, unmarked, both}
-use Rattle.rx_book.specs.Calls.{Begins, Called, Looked, Met}
+use Rattle.rx_book.specs.Calls.{BeginsWithSeen, Called, Looked, Met}
 use Rattle.rx_book.specs.Replay.{Replays}
 use Rattle.rx_book.proofs.Replay.{follows_more}
 use Rattle.rx_book.proofs.History.{entries_by-append, entries_by-same}
@@ -24,7 +24,7 @@ module _ {I : Type 0} (place : I → Option ℕ) where
   pub record AtPoint (v m : View I) : Type 0 where
     pub seen : (both v m).seen ≡ m.seen
     pub marked : (both v m).marked ≡ true
-    pub begins : Begins place v m.seen
+    pub begins : BeginsWithSeen place v m.seen
     pub reach : (both v m).reach ≡ length (both v m).seen
     pub dead : (both v m).dead ≡ deaths_of place (both v m).seen
     pub mine : v.mine ≡ entries_by v.number (both v m).seen
@@ -39,7 +39,7 @@ module _ {I : Type 0} (place : I → Option ℕ) where
       record {
         seen = here ∙ sym there;
         marked = top;
-        begins = subst (Begins place v) (sym there) (record { prefix = first.prefix; long = first.high; deaths = first.deaths; own = (mine own).0 });
+        begins = subst (BeginsWithSeen place v) (sym there) (record { prefix = first.prefix; long = first.high; deaths = first.deaths; own = (mine own).0 });
         reach = tight ∙ ap length (sym here);
         dead = now.deaths ∙ ap (deaths_of place) (ap (λ (n : ℕ). take n log) tight ∙ (full ∙ sym here));
         mine = (mine own).0 ∙ ap (entries_by v.number) (sym here);

@@ -14,7 +14,7 @@ use Rattle.rx_book.specs.declared.views.View.{View}
 use Rattle.rx_book.specs.Numbers.{child}
 use Rattle.rx_book.specs.History.{stamped, stamp_all, entries_by, deaths_of}
 use Rattle.rx_book.specs.declared.views.Past.{Past}
-use Rattle.rx_book.specs.Kept.{no_past, past_of, blank, opening_view, Born, Stands, Tells, Fits, Kept, looked, Looks, grown, Grows, parent_left, born, noted, unmarked, mark_only, both}
+use Rattle.rx_book.specs.Kept.{no_past, past_of, blank, opening_view, Born, SeenIsPrefix, OnlyTells, Fits, Kept, looked, Looks, grown, Grows, parent_left, born, noted, unmarked, mark_only, both}
 use Rattle.rx_base.proofs.Prefixes.{prefix-trans, prefix-shorter, prefix-length, prefix-longer}
 use Rattle.rx_book.proofs.Numbers.{nothing_ends, child_from, changed, changed-same, changed-other, changed-more}
 use Rattle.rx_book.proofs.History.{entries_by-append, entries_by-same, entries_by-other, deaths_of-front, entries_by-between, entries_by-front_none, deaths_of-max}
@@ -45,10 +45,10 @@ module _ {I : Type 0} (place : I → Option ℕ) where
   abbrev with_views : St → List (View I) → St
   with_views s vs = record { words = s.words; homes = s.homes; views = vs }
 
-  stands_none : (log : List (Stamped I)) → Stands place log (no_past {I = I})
+  stands_none : (log : List (Stamped I)) → SeenIsPrefix place log (no_past {I = I})
   stands_none log = record { prefix = (log, refl); low = omega arith; high = omega arith; deaths = refl }
 
-  stands_longer : (log new : List (Stamped I)) (p : Past I) → Stands place log p → Stands place (log ++ new) p
+  stands_longer : (log new : List (Stamped I)) (p : Past I) → SeenIsPrefix place log p → SeenIsPrefix place (log ++ new) p
   stands_longer log new p s = record {
     prefix = prefix-trans p.seen log (log ++ new) s.prefix (new, refl);
     low = s.low;
@@ -380,7 +380,7 @@ module _ {I : Type 0} (place : I → Option ℕ) where
         refl,
       )
 
-  pub tells : (slots id : ℕ) (me : Me (Unit {0}) (View I)) → Allows (Kept place) slots id me 0 (λ n. n) (Tells place (step slots 0 0 0 none) me)
+  pub tells : (slots id : ℕ) (me : Me (Unit {0}) (View I)) → Allows (Kept place) slots id me 0 (λ n. n) (OnlyTells place (step slots 0 0 0 none) me)
   tells slots id me s r _ at _ =
       let f = r.each id me.0 at in (
         me.0,

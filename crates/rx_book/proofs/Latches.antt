@@ -7,7 +7,7 @@ use Rattle.rx_base.proofs.Elements.{one-word, set-one, set-one-again}
 use Rattle.atomic_table.specs.Table.{State, Act, keeps, takes, gives, step, stepped, carried_after, Valid, Allows, Enters}
 use Rattle.atomic_table.proofs.Lists.{at_set, at_snoc, at_longer, set_here, set_again, exchanged}
 use Rattle.rx_book.specs.declared.steps.Hand.{Hand}
-use Rattle.rx_book.specs.Latched.{idle, holding, closing, SaysOut, IsOut, Emptied, AtHome, Knows, Latched, Took, Sat, Marked, Ends}
+use Rattle.rx_book.specs.Latched.{idle, holding, closing, SaysOut, IsOut, Emptied, AtHome, KnowsTheLock, Latched, Took, Sat, Marked, Ends}
 
 set_at : {A : Type 0} (l : List A) (i : ℕ) (a b : A) → get_elem? l i ≡ some b → get_elem? (set l i a) i ≡ some a
 set_at [] i a b e = absurd (some-ne-none b (sym e))
@@ -28,7 +28,7 @@ module _ {T K : Type 0} (holds : K → T → Type 0) where
   pub sits : (k : K) (slots : ℕ) → Enters (Latched holds k) slots 0 (λ n w. Sat {T = T} (step slots 0 0 0 none) (idle k, []) n (w, []))
   sits k slots s r _ _ = (
     idle k,
-    (r.0, ⊎_elim (λ (h : AtHome holds k s). inl h) (λ (t : IsOut k r.0 s ⊎ Emptied s). inr (⊎_elim (λ (o : IsOut k r.0 s). inl (o.0, at_longer s.views (idle k ∷ []) r.0 (holding k) o.1)) (λ (c : Emptied s). inr c) t)) r.1, λ id h e. ⊎_elim (r.2 id h) (λ (same : idle k ≡ h). subst (λ (z : Hand K). Knows holds k r.0 s id z) same (refl, (λ e. absurd (cc e)), λ e. absurd (cc e))) (at_snoc s.views (idle k) h id e)),
+    (r.0, ⊎_elim (λ (h : AtHome holds k s). inl h) (λ (t : IsOut k r.0 s ⊎ Emptied s). inr (⊎_elim (λ (o : IsOut k r.0 s). inl (o.0, at_longer s.views (idle k ∷ []) r.0 (holding k) o.1)) (λ (c : Emptied s). inr c) t)) r.1, λ id h e. ⊎_elim (r.2 id h) (λ (same : idle k ≡ h). subst (λ (z : Hand K). KnowsTheLock holds k r.0 s id z) same (refl, (λ e. absurd (cc e)), λ e. absurd (cc e))) (at_snoc s.views (idle k) h id e)),
     refl,
   )
 
@@ -82,7 +82,7 @@ module _ {T K : Type 0} (holds : K → T → Type 0) where
               id,
               inr (inl (now, set_at s.views id (holding k) (idle k) at)),
               λ j u e'. ⊎_elim
-                  (λ (t : (j ≡ id) × (holding k ≡ u)). subst (λ (z : ℕ × Hand K). Knows holds k id (stepped s 0 b id [] (holding k) (takes 0 (Some x))) z.0 z.1) (λ i. (sym t.0 i, t.1 i)) (refl, (λ _. (now, refl)), λ e. absurd (cc e)))
+                  (λ (t : (j ≡ id) × (holding k ≡ u)). subst (λ (z : ℕ × Hand K). KnowsTheLock holds k id (stepped s 0 b id [] (holding k) (takes 0 (Some x))) z.0 z.1) (λ i. (sym t.0 i, t.1 i)) (refl, (λ _. (now, refl)), λ e. absurd (cc e)))
                   (λ (t : (j ≢ id) × (get_elem? s.views j ≡ some u)). let o = r.2 j u t.1 in (o.0, (λ a. absurd (not_home s.words (o.1 a).0 h.0)), λ c. absurd (cc (sym h.0 ∙ (o.2 c).0))))
                   (at_set s.views id j (holding k) u e'),
             ),
@@ -119,9 +119,9 @@ module _ {T K : Type 0} (holds : K → T → Type 0) where
     mine : SaysOut s.words × (id ≡ r.0)
     mine = (r.2 id (holding k) at).1 refl
 
-    others : (s' : St) (w : Hand K) → Knows holds k r.0 s' id w → (j : ℕ) (u : Hand K) → get_elem? (set s.views id w) j ≡ some u → Knows holds k r.0 s' j u
+    others : (s' : St) (w : Hand K) → KnowsTheLock holds k r.0 s' id w → (j : ℕ) (u : Hand K) → get_elem? (set s.views id w) j ≡ some u → KnowsTheLock holds k r.0 s' j u
     others s' w new j u e = ⊎_elim
-        (λ (t : (j ≡ id) × (w ≡ u)). subst (λ (z : ℕ × Hand K). Knows holds k r.0 s' z.0 z.1) (λ i. (sym t.0 i, t.1 i)) new)
+        (λ (t : (j ≡ id) × (w ≡ u)). subst (λ (z : ℕ × Hand K). KnowsTheLock holds k r.0 s' z.0 z.1) (λ i. (sym t.0 i, t.1 i)) new)
         (λ (t : (j ≢ id) × (get_elem? s.views j ≡ some u)). let o = r.2 j u t.1 in (o.0, (λ a. absurd (t.0 ((o.1 a).1 ∙ sym mine.1))), λ c. absurd (not_closed s.words mine.0 (o.2 c).0)))
         (at_set s.views id j w u e)
 

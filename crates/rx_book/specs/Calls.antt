@@ -18,7 +18,7 @@ module _ {I : Type 0} where
     pub dead : v.dead ≡ 0
 
   -- the history h begins with all that was seen, with these deaths, and has just these entries of the caller
-  pub record Begins (place : I → Option ℕ) (v : View I) (h : List (Stamped I)) : Type 0 where
+  pub record BeginsWithSeen (place : I → Option ℕ) (v : View I) (h : List (Stamped I)) : Type 0 where
     pub prefix : IsPrefix v.seen h
     pub long : v.reach ≤ length h
     pub deaths : v.dead ≡ deaths_of place (take v.reach h)
@@ -79,4 +79,4 @@ module _ {I : Type 0} where
     pub whole : entries o ≡ items_of history
     pub lawful : legal history
     pub replayed : Replays step history
-    pub begins : Begins place v history
+    pub begins : BeginsWithSeen place v history

@@ -46,7 +46,7 @@ module _ {I : Type 0} where
 
   module _ (place : I → Option ℕ) where
     -- what was seen begins the log, and its deaths are those of so many entries
-    pub record Stands (log : List (Stamped I)) (p : Past I) : Type 0 where
+    pub record SeenIsPrefix (log : List (Stamped I)) (p : Past I) : Type 0 where
       pub prefix : IsPrefix p.seen log
       pub low : length p.seen ≤ p.reach
       pub high : p.reach ≤ length log
@@ -55,9 +55,9 @@ module _ {I : Type 0} where
     -- the view v of the seat id. The seat `holder` has the mark, `owner` is the seat of a number, and `births` is how many
     -- numbers were split off from one
     pub record Fits (log : List (Stamped I)) (holder : ℕ) (owner births : List ℕ → ℕ) (id : ℕ) (v : View I) : Type 0 where
-      pub now : Stands log (past_of v)
-      pub first : Stands log v.first
-      pub second : Stands log v.second
+      pub now : SeenIsPrefix log (past_of v)
+      pub first : SeenIsPrefix log v.first
+      pub second : SeenIsPrefix log v.second
       pub whole : v.second.marked ≡ true → (v.marked ≡ true) × (v.second.seen ≡ log)
       pub mark : v.marked ≡ true → (id ≡ holder) × (v.seen ≡ log)
       pub own : v.numbered ≡ true → (v.mine ≡ entries_by v.number log) × (v.mine ≡ entries_by v.number v.seen)
@@ -89,13 +89,14 @@ module _ {I : Type 0} where
 
   -- what a load tells of the seat's own view, where it changes nothing: there is one log, which begins with all that was seen
   abbrev pub Told : (I → Option ℕ) → View I → Type 0
-  Told place v = (log : List (Stamped I)) × Stands place log (past_of v) × Stands place log v.first × Stands place log v.second
+  Told place v = (log : List (Stamped I)) × SeenIsPrefix place log (past_of v) × SeenIsPrefix place log v.first
+      × SeenIsPrefix place log v.second
       × (v.marked ≡ true → v.seen ≡ log) × (v.second.marked ≡ true → v.second.seen ≡ log)
       × (v.numbered ≡ true → (v.mine ≡ entries_by v.number log) × (v.mine ≡ entries_by v.number v.seen))
 
   -- a load that only tells
-  abbrev pub Tells : (I → Option ℕ) → Step (Unit {0}) → Me (Unit {0}) (View I) → ℕ → Me (Unit {0}) (View I) → Type 0
-  Tells place st me found me' = (me' ≡ me) × Told place me.0
+  abbrev pub OnlyTells : (I → Option ℕ) → Step (Unit {0}) → Me (Unit {0}) (View I) → ℕ → Me (Unit {0}) (View I) → Type 0
+  OnlyTells place st me found me' = (me' ≡ me) × Told place me.0
 
   -- the view after an append of these items
   abbrev pub grown : (I → Option ℕ) → View I → List I → View I

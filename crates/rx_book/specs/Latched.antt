@@ -39,13 +39,13 @@ module _ {T K : Type 0} where
     AtHome k s = (s.words ≡ 0 ∷ []) × ((x : T) × holds k x × (get_elem? s.homes 0 ≡ some (some (Some x))))
 
     -- one hand at most has the lock, and then the value is out; a hand that has closed the lock knows that it is closed
-    abbrev pub Knows : K → ℕ → State (Option T) (Hand K) → ℕ → Hand K → Type 0
-    Knows k holder s id h = (h.key ≡ k) × (h.has_it ≡ true → SaysOut s.words × (id ≡ holder)) × (h.closed ≡ true → Emptied s)
+    abbrev pub KnowsTheLock : K → ℕ → State (Option T) (Hand K) → ℕ → Hand K → Type 0
+    KnowsTheLock k holder s id h = (h.key ≡ k) × (h.has_it ≡ true → SaysOut s.words × (id ≡ holder)) × (h.closed ≡ true → Emptied s)
 
     -- the rule: the lock is free, taken by a hand that is there, or closed, and each hand knows what is so
     abbrev pub Latched : K → State (Option T) (Hand K) → Type 0
     Latched k s = (holder : ℕ) × (AtHome k s ⊎ (IsOut k holder s ⊎ Emptied s))
-        × ((id : ℕ) (h : Hand K) → get_elem? s.views id ≡ some h → Knows k holder s id h)
+        × ((id : ℕ) (h : Hand K) → get_elem? s.views id ≡ some h → KnowsTheLock k holder s id h)
 
     -- where the word was 0, the value is in the hand
     abbrev pub Took : Step (Option T) → Me (Option T) (Hand K) → ℕ → Me (Option T) (Hand K) → Type 0

@@ -4,7 +4,7 @@ ghost use Rattle.rx_base.specs.Sets.{has_bit};
 ghost use Rattle.rx_book.specs.declared.views.Stamped.{Stamped};
 ghost use Rattle.rx_book.specs.History.{items_of, stamp_all, has_death, deaths_of};
 ghost use Rattle.rx_book.specs.Kept.{opening_view, parent_left, born, grown, settled};
-ghost use Rattle.rx_book.specs.Calls.{IsFresh, Begins, Called, Met, Looked, Closed, Ended};
+ghost use Rattle.rx_book.specs.Calls.{IsFresh, BeginsWithSeen, Called, Met, Looked, Closed, Ended};
 ghost use Rattle.rx_book.specs.Passes.{view_of, word_of, note_view, note_word, IsAsSeen};
 
 use crate::objects::{Added, Dies, Object};
@@ -184,7 +184,7 @@ impl<O: Object> Book<O> {
     fn run<R: Wait>(&self, rt: &R, seat: &mut Spot<O::Item>, op: O::Op) -> O::Reply
         requires own { seat.old.table_id ≡ self.now.word }
         requires plain { (seat.old.me.0.marked ≡ false) × (seat.old.me.0.numbered ≡ true) × (seat.old.me.1 ≡ []) }
-        requires fits { (h : List (Stamped O.Item)) → O.legal self.now.fixed h → Begins O.Item.place seat.old.me.0 h
+        requires fits { (h : List (Stamped O.Item)) → O.legal self.now.fixed h → BeginsWithSeen O.Item.place seat.old.me.0 h
             → O.fits self.now.fixed h seat.old.me.0.number op }
         ensures own { seat.new.table_id ≡ seat.old.table_id }
         ensures plain { (seat.new.me.0.marked ≡ false) × (seat.new.me.0.numbered ≡ true) × (seat.new.me.1 ≡ []) }
@@ -219,7 +219,7 @@ impl<O: Object> Book<O> {
     #[inline(always)]
     pub fn call<R: Wait>(&self, rt: &R, pass: &mut Pass<O::Item>, op: O::Op) -> O::Reply
         requires own { word_of pass.old ≡ self.now.word }
-        requires fits { (h : List (Stamped O.Item)) → O.legal self.now.fixed h → Begins O.Item.place (view_of pass.old) h
+        requires fits { (h : List (Stamped O.Item)) → O.legal self.now.fixed h → BeginsWithSeen O.Item.place (view_of pass.old) h
             → O.fits self.now.fixed h (view_of pass.old).number op }
         ensures own { word_of pass.new ≡ word_of pass.old }
         ensures called { Called O.Item.place (O.step self.now.fixed) (O.legal self.now.fixed) (view_of pass.old) op result

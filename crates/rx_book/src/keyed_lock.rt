@@ -1,7 +1,7 @@
 // The lock, and the turn of the one who has it.
 ghost use Rattle.std.specs.Prelude.{◌≡◌, if◌then◌else◌, IfOk, IfErr};
 
-use crate::steps::{Close, Fact, Give, Hand, Mark, Rule, Sit, Take};
+use crate::steps::{Close, Fact, Give, Hand, MaySleep, Rule, Sit, Take};
 use atomic_table::{Seat, Table};
 use rx_base::NoMemory;
 use std::alloc::Global;
@@ -94,7 +94,7 @@ impl<T, K, F: Fact<T, K>> Lock<T, K, F> {
             }
             if !self.comes_home() {
                 has_slept = true;
-                shared.compare_exchange::<Mark>(&mut seat, 0, 1, 2);
+                shared.compare_exchange::<MaySleep>(&mut seat, 0, 1, 2);
                 shared.park(rt, 0, 2);
             }
         }

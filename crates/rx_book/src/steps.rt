@@ -49,9 +49,9 @@ impl<T, K, F: Fact<T, K>> Play<Option<T>, Hand<K>> for Take<F> {
 }
 
 // One says that it may sleep, and learns nothing.
-pub struct Mark;
+pub struct MaySleep;
 
-impl<T, K> Play<Option<T>, Hand<K>> for Mark {
+impl<T, K> Play<Option<T>, Hand<K>> for MaySleep {
     ghost use Rattle.rx_book.specs.Latched.{Marked};
 
     ghost then = { Marked };

@@ -36,9 +36,9 @@ impl<I> Play<(), View<I>> for Look {
 pub struct Tell;
 
 impl<I: Dies> Play<(), View<I>> for Tell {
-    ghost use Rattle.rx_book.specs.Kept.{Tells};
+    ghost use Rattle.rx_book.specs.Kept.{OnlyTells};
 
-    ghost then = { Tells I.place };
+    ghost then = { OnlyTells I.place };
 }
 
 // An append of the items that E names.

@@ -13,7 +13,7 @@ use Rattle.rx_syntax.specs.declared.nodes.BlockId.{BlockId}
 use Rattle.rx_syntax.specs.declared.nodes.NameId.{NameId}
 use Rattle.rx_syntax.specs.declared.nodes.Stmt.{Stmt as Node}
 use Rattle.rx_check.specs.Rules.{Kind, Sight, assigned, fails_depth, fails_known, inside, learned, sights}
-use Rattle.rx_check.specs.Inside.Walk.{Sofar, and_on, cap, is_in, is_one_more, mistakes_kind, known_with, noted, rule_with, sights_run, seen_as, sofar_of, sight_stepped, Extends, Knows}
+use Rattle.rx_check.specs.Inside.Walk.{Sofar, and_on, cap, is_in, is_one_more, mistakes_kind, known_with, noted, rule_with, sights_run, seen_as, sofar_of, sight_stepped, Extends, KnowsNames}
 use Rattle.rx_check.specs.declared.names.Seen.{Seen}
 use Rattle.rx_check.specs.declared.walk.Walk.{Walk}
 use Rattle.rx_check.proofs.Statements.{least}
@@ -49,14 +49,14 @@ pub record Going (s : Shape) (k : BlockId) (i depth total : ℕ) (old now : Walk
   pub rest : Block
   pub stands : ListStands s (drop i ids) rest
   pub names : List ℕ
-  pub knows : Knows now.known.items names
+  pub knows : KnowsNames now.known.items names
   pub same : sights_run (sofar_of old) (sights known depth t) ≡ sights_run (sofar_of now) (sights names depth rest)
   pub works : cap (work t) ≡ cap (total + work rest)
 
 zero-more : (n : ℕ) → n ≡ 0 + n
 zero-more n = omega arith
 
-pub going-all : (s : Shape) (k : BlockId) (depth : ℕ) (w : Walk) (t : Block) (known : List ℕ) → Knows w.known.items known → BlockStands s k t → Going s k 0 depth 0 w w t known
+pub going-all : (s : Shape) (k : BlockId) (depth : ℕ) (w : Walk) (t : Block) (known : List ℕ) → KnowsNames w.known.items known → BlockStands s k t → Going s k 0 depth 0 w w t known
 going-all s k depth w t known n b = record { ids = b.0; block = b.1; rest = t; stands = b.2; names = known; knows = n; same = refl; works = ap cap (zero-more (work t)) }
 
 -- the next statement, and what is left after it
@@ -68,7 +68,7 @@ pub record Next (s : Shape) (k : BlockId) (i depth total : ℕ) (old now : Walk)
   pub rest : Block
   pub stands : ListStands s (drop (i + 1) ids) rest
   pub names : List ℕ
-  pub knows : Knows now.known.items names
+  pub knows : KnowsNames now.known.items names
   pub same : sights_run (sofar_of old) (sights known depth t) ≡ sights_run (sofar_of now) (record { stmt = first; depth = depth; known = names } ∷ (inside names depth first ++ sights (learned (assigned first) names) depth rest))
   pub works : cap (work t) ≡ cap (total + (work_of first + work rest))
 
@@ -89,7 +89,7 @@ next-stands s k i depth total old now t known id g f =
 pub points : (s : Shape) (k : BlockId) (i depth total : ℕ) (old now : Walk) (t : Block) (known : List ℕ) (id : StmtId) → Going s k i depth total old now t known → IfSome (slice_get s.blocks k.0) (λ ids. slice_get ids i ≡ Some id) → Points s id
 points s k i depth total old now t known id g f = points-of s id (drop (i + 1) g.ids) g.rest (next-stands s k i depth total old now t known id g f)
 
-next-of : (s : Shape) (k : BlockId) (i depth total : ℕ) (old now : Walk) (t : Block) (known : List ℕ) (id : StmtId) (node : Node) (ids : List StmtId) (rest : Block) (names : List ℕ) → slice_get s.stmts id.0 ≡ Some node → slice_get s.blocks k.0 ≡ Some ids → ListStands s (id ∷ drop (i + 1) ids) rest → Knows now.known.items names → sights_run (sofar_of old) (sights known depth t) ≡ sights_run (sofar_of now) (sights names depth rest) → cap (work t) ≡ cap (total + work rest) → Next s k i depth total old now t known node
+next-of : (s : Shape) (k : BlockId) (i depth total : ℕ) (old now : Walk) (t : Block) (known : List ℕ) (id : StmtId) (node : Node) (ids : List StmtId) (rest : Block) (names : List ℕ) → slice_get s.stmts id.0 ≡ Some node → slice_get s.blocks k.0 ≡ Some ids → ListStands s (id ∷ drop (i + 1) ids) rest → KnowsNames now.known.items names → sights_run (sofar_of old) (sights known depth t) ≡ sights_run (sofar_of now) (sights names depth rest) → cap (work t) ≡ cap (total + work rest) → Next s k i depth total old now t known node
 next-of s k i depth total old now t known id node ids Nothing names a b h n e w = absurd h
 next-of s k i depth total old now t known id node ids (Then u us) names a b h n e w = record {
   ids = ids;
@@ -111,7 +111,7 @@ going-next s k i depth total old now t known id node g f a = next-of s k i depth
 abbrev pub its : {s : Shape} {k : BlockId} {i depth total : ℕ} {old now : Walk} {t : Block} {known : List ℕ} {node : Node} → Next s k i depth total old now t known node → List Sight
 its {depth = depth} n = record { stmt = n.first; depth = depth; known = n.names } ∷ inside n.names depth n.first
 
-pub going-on : (s : Shape) (k : BlockId) (i depth total : ℕ) (old now new : Walk) (t : Block) (known : List ℕ) (node : Node) (w : ℕ) (n : Next s k i depth total old now t known node) → sights_run (sofar_of now) (its n) ≡ Ok (sofar_of new) → Knows new.known.items (learned (assigned n.first) n.names) → w ≡ cap (work_of n.first) → Going s k (i + 1) depth (cap (total + w)) old new t known
+pub going-on : (s : Shape) (k : BlockId) (i depth total : ℕ) (old now new : Walk) (t : Block) (known : List ℕ) (node : Node) (w : ℕ) (n : Next s k i depth total old now t known node) → sights_run (sofar_of now) (its n) ≡ Ok (sofar_of new) → KnowsNames new.known.items (learned (assigned n.first) n.names) → w ≡ cap (work_of n.first) → Going s k (i + 1) depth (cap (total + w)) old new t known
 going-on s k i depth total old now new t known node w n e l v = record {
   ids = n.ids;
   block = n.block;
@@ -157,12 +157,12 @@ extends-trans a b c x y = (x.0 ++ y.0, y.1 ∙ (ap (λ l. l ++ y.0) x.1 ∙ appe
 pub numbers : List NameId → List ℕ
 numbers ns = map (λ n. n.0) ns
 
-pub knows-own : (ns : List NameId) → Knows ns (numbers ns)
+pub knows-own : (ns : List NameId) → KnowsNames ns (numbers ns)
 unfolding numbers
 knows-own [] n = refl
 knows-own (m ∷ ms) n = ap (λ b. (n == m.0) || b) (knows-own ms n)
 
-pub knows-same : (ns ms : List NameId) (known : List ℕ) → ns ≡ ms → Knows ms known → Knows ns known
+pub knows-same : (ns ms : List NameId) (known : List ℕ) → ns ≡ ms → KnowsNames ms known → KnowsNames ns known
 knows-same ns ms known e k n = ap (is_in n) e ∙ k n
 
 or-true : (a b : Bool) → (a ≡ true → b ≡ true) → b ≡ (a || b)
@@ -176,7 +176,7 @@ or-end false true = refl
 or-end false false = refl
 
 -- what is known after a statement
-pub knows-more : (a : Option Seen) (ns : List NameId) (known : List ℕ) → Knows ns known → Knows (known_with a ns) (learned (option_map seen_as a) known)
+pub knows-more : (a : Option Seen) (ns : List NameId) (known : List ℕ) → KnowsNames ns known → KnowsNames (known_with a ns) (learned (option_map seen_as a) known)
 knows-more None ns known k n = k n
 knows-more (Some s) ns known k n = by-cases (is_in s.name.0 ns) refl
   where

@@ -9,7 +9,7 @@ use Rattle.rx_syntax.specs.declared.nodes.NameId.{NameId}
 use Rattle.rx_syntax.specs.declared.nodes.Stmt.{Stmt as Node}
 use Rattle.rx_syntax.specs.declared.nodes.Stmt.TheVariants.{Set as SetNode, New as NewNode, Get as GetNode, Put as PutNode, Forget as ForgetNode, Census as CensusNode, Print as PrintNode, Throw as ThrowNode, Async as AsyncNode, AtAsync as AtAsyncNode, At as AtNode, Finish as FinishNode, If as IfNode, Repeat as RepeatNode, Try as TryNode}
 use Rattle.rx_check.specs.Rules.{Kind, ANumber, AReference, names_in, pairs_in, names_of_all, exprs_of, targets_of, assigned, Sight, is_kind, fails_known, fails_depth}
-use Rattle.rx_check.specs.Inside.Walk.{kind_in, gets_other_kind, is_one_more, mistakes_kind, rule_with, seen_as, seen_all, Knows, parts_of, any_name, join, is_unknown, is_of_kind, uses_in, OptionStands, uses_all, any_target, rule_from}
+use Rattle.rx_check.specs.Inside.Walk.{kind_in, gets_other_kind, is_one_more, mistakes_kind, rule_with, seen_as, seen_all, KnowsNames, parts_of, any_name, join, is_unknown, is_of_kind, uses_in, OptionStands, uses_all, any_target, rule_from}
 use Rattle.rx_check.specs.declared.parts.Parts.{Parts}
 use Rattle.rx_check.specs.declared.walk.Walk.{Walk}
 use Rattle.rx_check.proofs.Waiting.{join-assoc}
@@ -95,7 +95,7 @@ least-same : (a b c d e f g h : Bool) → a ≡ e → b ≡ f → c ≡ g → d 
 least-same a b c d e f g h p q r s = ap (λ x. least x b c d) p ∙ (ap (λ x. least e x c d) q ∙ (ap (λ x. least e f x d) r ∙ ap (λ x. least e f g x) s))
 
 -- the parts of a statement fail the same rule as it does
-pub rule-same : (w : Walk) (s : Shape) (p : Parts) (t : Stmt) (depth : ℕ) (known : List ℕ) (y : PartsStand s p t) → Knows w.known.items known → rule_from w (join (uses_all w y.firsts) (uses_all w y.seconds)) p.target p.assigned depth ≡ rule_with (seen_all w.seen.items) (record { stmt = t; depth = depth; known = known })
+pub rule-same : (w : Walk) (s : Shape) (p : Parts) (t : Stmt) (depth : ℕ) (known : List ℕ) (y : PartsStand s p t) → KnowsNames w.known.items known → rule_from w (join (uses_all w y.firsts) (uses_all w y.seconds)) p.target p.assigned depth ≡ rule_with (seen_all w.seen.items) (record { stmt = t; depth = depth; known = known })
 rule-same w s p t depth known y k =
     let u : join (uses_all w y.firsts) (uses_all w y.seconds) ≡ uses_all w (exprs_of t) = sym (ap (uses_all w) y.exprs ∙ uses-append w y.firsts y.seconds) in
     let x : Sight = record { stmt = t; depth = depth; known = known } in

@@ -5,7 +5,7 @@ ghost use Rattle.rx_rules.specs.Code.{Block, Stmt as TheStmt, work, work_of};
 ghost use Rattle.rx_syntax.specs.Shape.{BlockStands, StmtIs};
 ghost use Rattle.rx_check.specs.Rules.{ANumber, assigned, inside, learned, sights};
 ghost use Rattle.rx_check.specs.Inside.Walk.{any_target, cap, gets_other_kind, is_of_kind, is_one_more, is_unknown, known_with, noted};
-ghost use Rattle.rx_check.specs.Inside.Walk.{rule_from, rule_with, sights_run, seen_all, seen_as, seen_with, sofar_of, Extends, Knows};
+ghost use Rattle.rx_check.specs.Inside.Walk.{rule_from, rule_with, sights_run, seen_all, seen_as, seen_with, sofar_of, Extends, KnowsNames};
 ghost use Rattle.rx_check.specs.declared.checker.CheckCause.TheVariants.{Bad, NoMemory};
 
 use crate::CheckCause;
@@ -95,7 +95,7 @@ fn rule(
     depth: u32,
 ) -> Result<Option<u8>, CheckCause>
     requires { (t : TheStmt) × StmtIs script.now stmt t }
-    ensures rule { IfOk result (λ r. (t : TheStmt) (known : List ℕ) → Knows walk.now.known.items known → StmtIs script.now stmt t
+    ensures rule { IfOk result (λ r. (t : TheStmt) (known : List ℕ) → KnowsNames walk.now.known.items known → StmtIs script.now stmt t
         → r ≡ rule_with (seen_all walk.now.seen.items) (record { stmt = t; depth = depth; known = known })) }
     ensures why { IfErr result (λ e. e ≡ NoMemory) }
 {
@@ -163,11 +163,11 @@ impl Walk {
     ) -> Result<u64, CheckCause>
         requires stands { (t : TheStmt) × StmtIs script.now stmt t }
         requires depth { depth ≤ 33 }
-        ensures ok { IfOk result (λ w. (t : TheStmt) (known : List ℕ) → Knows self.old.known.items known → StmtIs script.now stmt t
+        ensures ok { IfOk result (λ w. (t : TheStmt) (known : List ℕ) → KnowsNames self.old.known.items known → StmtIs script.now stmt t
             → (sights_run (sofar_of self.old) (record { stmt = t; depth = depth; known = known } ∷ inside known depth t)
-            ≡ Ok (sofar_of self.new)) × Knows self.new.known.items (learned (assigned t) known) × (w ≡ cap (work_of t))) }
+            ≡ Ok (sofar_of self.new)) × KnowsNames self.new.known.items (learned (assigned t) known) × (w ≡ cap (work_of t))) }
         ensures bad { (rule node : ℕ) → IsErrOf result (Bad rule node) → (t : TheStmt) (known : List ℕ)
-            → Knows self.old.known.items known → StmtIs script.now stmt t
+            → KnowsNames self.old.known.items known → StmtIs script.now stmt t
             → sights_run (sofar_of self.old) (record { stmt = t; depth = depth; known = known } ∷ inside known depth t) ≡ Err (rule, node) }
         ensures small { IfOk result (λ w. w ≤ 100001) }
         ensures kept { OnOk result (Extends self.old.known.items self.new.known.items) }
@@ -195,10 +195,10 @@ impl Walk {
     ) -> Result<u64, CheckCause>
         requires stands { (t : TheStmt) × StmtIs script.now stmt t }
         requires depth { depth ≤ 32 }
-        ensures ok { IfOk result (λ w. (t : TheStmt) (known : List ℕ) → Knows self.old.known.items known → StmtIs script.now stmt t
+        ensures ok { IfOk result (λ w. (t : TheStmt) (known : List ℕ) → KnowsNames self.old.known.items known → StmtIs script.now stmt t
             → (sights_run (sofar_of self.old) (inside known depth t) ≡ Ok (sofar_of self.new)) × (w ≡ cap (work_of t))) }
         ensures bad { (rule node : ℕ) → IsErrOf result (Bad rule node) → (t : TheStmt) (known : List ℕ)
-            → Knows self.old.known.items known → StmtIs script.now stmt t
+            → KnowsNames self.old.known.items known → StmtIs script.now stmt t
             → sights_run (sofar_of self.old) (inside known depth t) ≡ Err (rule, node) }
         ensures small { IfOk result (λ w. w ≤ 100001) }
         ensures kept { OnOk result (self.new.known.items ≡ self.old.known.items) }
@@ -228,11 +228,11 @@ impl Walk {
     ) -> Result<u64, CheckCause>
         requires stands { (t : Block) × BlockStands script.now block t }
         requires depth { depth ≤ 33 }
-        ensures ok { IfOk result (λ w. (t : Block) (known : List ℕ) → Knows self.old.known.items known
+        ensures ok { IfOk result (λ w. (t : Block) (known : List ℕ) → KnowsNames self.old.known.items known
             → BlockStands script.now block t → (sights_run (sofar_of self.old) (sights known depth t) ≡ Ok (sofar_of self.new))
             × (w ≡ cap (work t))) }
         ensures bad { (rule node : ℕ) → IsErrOf result (Bad rule node) → (t : Block) (known : List ℕ)
-            → Knows self.old.known.items known → BlockStands script.now block t
+            → KnowsNames self.old.known.items known → BlockStands script.now block t
             → sights_run (sofar_of self.old) (sights known depth t) ≡ Err (rule, node) }
         ensures small { IfOk result (λ w. w ≤ 100001) }
         ensures kept { OnOk result (self.new.known.items ≡ self.old.known.items) }

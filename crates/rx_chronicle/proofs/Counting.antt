@@ -11,8 +11,8 @@ use Rattle.rx_rules.specs.declared.tasks.Task.{Task}
 use Rattle.rx_rules.specs.declared.tasks.Scope.{Scope}
 use Rattle.rx_rules.specs.declared.tasks.Kind.TheVariants.{Finish, Call}
 use Rattle.rx_rules.proofs.Numbers.{scope-after_end}
-use Rattle.rx_sound.specs.Sound.{Each}
-use Rattle.rx_sound.proofs.Changes.{each_found, each_more, each_filter}
+use Rattle.rx_tree_laws.specs.Sound.{Each}
+use Rattle.rx_tree_laws.proofs.Changes.{each_found, each_more, each_filter}
 use Rattle.rx_chronicle.specs.declared.notes.Note.{Note}
 use Rattle.rx_chronicle.specs.Told.{parents_by, parents_in, parents_told}
 use Rattle.rx_chronicle.specs.Keeping.{Bounds}

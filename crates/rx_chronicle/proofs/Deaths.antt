@@ -6,9 +6,9 @@ use Rattle.rx_rules.specs.declared.entries.Entry.{Entry}
 use Rattle.rx_rules.specs.declared.entries.Entry.TheVariants.{Death, Join}
 use Rattle.rx_runs.specs.Ties.{MayBe, MayCome}
 use Rattle.rx_rules.proofs.Append.{tree-push}
-use Rattle.rx_sound.specs.Sound.{Each}
-use Rattle.rx_sound.specs.Histories.{DeadAsTold}
-use Rattle.rx_sound.proofs.Histories.{none_yet, older-from}
+use Rattle.rx_tree_laws.specs.Sound.{Each}
+use Rattle.rx_tree_laws.specs.Histories.{DeadAsTold}
+use Rattle.rx_tree_laws.proofs.Histories.{none_yet, older-from}
 use Rattle.rx_runs.specs.Segments.{plan_left}
 use Rattle.rx_runs.proofs.Append.{allowed-push}
 use Rattle.rx_runs.proofs.Pushes.{plan-push}

@@ -6,7 +6,7 @@ use Rattle.rx_rules.specs.declared.entries.Act.{Act}
 use Rattle.rx_rules.specs.declared.entries.Entry.{Entry}
 use Rattle.rx_rules.specs.declared.entries.Entry.TheVariants.{Step, Root, Death, Join}
 use Rattle.rx_rules.proofs.Append.{no_root-push}
-use Rattle.rx_sound.proofs.Histories.{none_yet}
+use Rattle.rx_tree_laws.proofs.Histories.{none_yet}
 use Rattle.rx_runs.proofs.Endings.{empty_at_end}
 use Rattle.std.specs.List.{find}
 use Rattle.rx_chronicle.specs.Told.{Ending}

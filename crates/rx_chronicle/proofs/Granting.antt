@@ -4,8 +4,8 @@ use Rattle.rx_rules.proofs.Common.{PlaceId, TaskId, ScopeId, PlaceSet, Fault, Tr
 use Rattle.rx_rules.specs.declared.entries.Act.{Act}
 use Rattle.rx_rules.specs.declared.entries.Entry.{Entry}
 use Rattle.rx_rules.specs.declared.entries.Entry.TheVariants.{Step, Root}
-use Rattle.rx_sound.specs.Sound.{Each}
-use Rattle.rx_sound.specs.Histories.{RootStands}
+use Rattle.rx_tree_laws.specs.Sound.{Each}
+use Rattle.rx_tree_laws.specs.Histories.{RootStands}
 use Rattle.rx_history.specs.Logs.{Log}
 use Rattle.rx_history.specs.Setups.{given}
 use Rattle.rx_finish.specs.declared.ledger.Caller.{Caller}

@@ -5,10 +5,10 @@ use Rattle.rx_rules.proofs.Common.{TaskId, ScopeId, Tree, task_of, is_scope, the
 use Rattle.rx_rules.specs.declared.entries.Entry.{Entry}
 use Rattle.rx_rules.specs.declared.tasks.Task.{Task}
 use Rattle.rx_rules.specs.declared.tasks.Scope.{Scope}
-use Rattle.rx_sound.specs.Chains.{meets, Falls}
-use Rattle.rx_sound.proofs.Reached.{sound}
-use Rattle.rx_sound.proofs.Reach.{fits_of}
-use Rattle.rx_sound.proofs.Histories.{fold_reached}
+use Rattle.rx_tree_laws.specs.Chains.{meets, Falls}
+use Rattle.rx_tree_laws.proofs.Reached.{sound}
+use Rattle.rx_tree_laws.proofs.Reach.{fits_of}
+use Rattle.rx_tree_laws.proofs.Histories.{fold_reached}
 use Rattle.rx_finish.specs.declared.ledger.Caller.{Caller}
 use Rattle.rx_finish.specs.Callers.{MayAsk}
 

@@ -15,14 +15,14 @@ use Rattle.rx_rules.specs.declared.tasks.Scope.{Scope}
 use Rattle.rx_rules.specs.declared.tasks.Kind.{Kind}
 use Rattle.rx_rules.specs.declared.tasks.Kind.TheVariants.{Finish, Call}
 use Rattle.rx_rules.proofs.Lookups.{number-of}
-use Rattle.rx_sound.specs.Chains.{Opened, HasOpener}
-use Rattle.rx_sound.specs.Sound.{TasksFall}
-use Rattle.rx_sound.proofs.Blows.{hit_number}
-use Rattle.rx_sound.proofs.Reached.{sound}
-use Rattle.rx_sound.proofs.Reach.{task_below}
-use Rattle.rx_sound.proofs.Staying.{find_unfiltered}
-use Rattle.rx_sound.proofs.Owning.{release_keeps, release_pops}
-use Rattle.rx_sound.proofs.Histories.{reached_now, dead-now}
+use Rattle.rx_tree_laws.specs.Chains.{Opened, HasOpener}
+use Rattle.rx_tree_laws.specs.Sound.{TasksFall}
+use Rattle.rx_tree_laws.proofs.Blows.{hit_number}
+use Rattle.rx_tree_laws.proofs.Reached.{sound}
+use Rattle.rx_tree_laws.proofs.Reach.{task_below}
+use Rattle.rx_tree_laws.proofs.Staying.{find_unfiltered}
+use Rattle.rx_tree_laws.proofs.Owning.{release_keeps, release_pops}
+use Rattle.rx_tree_laws.proofs.Histories.{reached_now, dead-now}
 use Rattle.rx_runs.proofs.Endings.{root_empties}
 
 -- who stands there stands there still, and who does not does not

@@ -8,8 +8,8 @@ use Rattle.rx_rules.specs.declared.entries.Entry.TheVariants.{Step, Root, Death,
 use Rattle.rx_rules.specs.declared.tasks.Scope.{Scope}
 use Rattle.rx_rules.specs.declared.tasks.Kind.{Kind}
 use Rattle.rx_rules.specs.declared.tasks.Kind.TheVariants.{Finish, Call}
-use Rattle.rx_sound.specs.Sound.{Each}
-use Rattle.rx_sound.proofs.Changes.{each_more, each_filter, each_change}
+use Rattle.rx_tree_laws.specs.Sound.{Each}
+use Rattle.rx_tree_laws.proofs.Changes.{each_more, each_filter, each_change}
 use Rattle.rx_chronicle.specs.Told.{parents_by, parents_in, parents_told, openers_by, openers_in, openers_told, no_opener}
 use Rattle.rx_chronicle.specs.Noting.{IsNoted, NotesTell}
 use Rattle.rx_chronicle.proofs.Counting.{next-act}

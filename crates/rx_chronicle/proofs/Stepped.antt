@@ -6,8 +6,8 @@ use Rattle.rx_rules.specs.declared.entries.Act.{Act}
 use Rattle.rx_rules.specs.declared.entries.Entry.{Entry}
 use Rattle.rx_rules.specs.declared.entries.Entry.TheVariants.{Step, Root}
 use Rattle.rx_rules.proofs.Append.{tree-push, root-push, act-places}
-use Rattle.rx_sound.specs.Sound.{Each}
-use Rattle.rx_sound.proofs.Changes.{each_filter}
+use Rattle.rx_tree_laws.specs.Sound.{Each}
+use Rattle.rx_tree_laws.proofs.Changes.{each_filter}
 use Rattle.rx_runs.specs.Segments.{plan_left}
 use Rattle.rx_runs.proofs.Append.{allowed-push}
 use Rattle.rx_runs.proofs.Pushes.{plan-push}

@@ -5,13 +5,13 @@ use Rattle.rx_rules.specs.declared.entries.Act.TheVariants.{Release}
 use Rattle.rx_rules.specs.declared.tasks.Task.{Task}
 use Rattle.rx_rules.specs.declared.tasks.Scope.{Scope}
 use Rattle.rx_rules.proofs.Lookups.{number-of}
-use Rattle.rx_sound.specs.Sound.{Each}
-use Rattle.rx_sound.proofs.Changes.{each_filter}
-use Rattle.rx_sound.proofs.Reached.{sound}
-use Rattle.rx_sound.proofs.Opening.{own_chain}
-use Rattle.rx_sound.proofs.Staying.{find_unfiltered}
-use Rattle.rx_sound.proofs.Owning.{release_pops}
-use Rattle.rx_sound.proofs.Histories.{fold_reached, none_yet}
+use Rattle.rx_tree_laws.specs.Sound.{Each}
+use Rattle.rx_tree_laws.proofs.Changes.{each_filter}
+use Rattle.rx_tree_laws.proofs.Reached.{sound}
+use Rattle.rx_tree_laws.proofs.Opening.{own_chain}
+use Rattle.rx_tree_laws.proofs.Staying.{find_unfiltered}
+use Rattle.rx_tree_laws.proofs.Owning.{release_pops}
+use Rattle.rx_tree_laws.proofs.Histories.{fold_reached, none_yet}
 use Rattle.rx_chronicle.specs.Told.{parents_told, openers_told}
 use Rattle.rx_chronicle.proofs.Noted.{Told, all_told}
 use Rattle.rx_chronicle.specs.Uncovering.{UncoversParent}

@@ -6,7 +6,7 @@ use Rattle.rx_rules.specs.declared.entries.Entry.{Entry}
 use Rattle.rx_rules.specs.Tree.{Tree}
 use Rattle.rx_rules.specs.Fold.{tree_of}
 use Rattle.rx_rules.specs.Run.{Event, Given, in_all, plan_of, Proper, Folds}
-use Rattle.rx_sound.specs.Sound.{Each}
+use Rattle.rx_tree_laws.specs.Sound.{Each}
 use Rattle.rx_runs.specs.Segments.{plan_left}
 use Rattle.rx_runs.specs.Ties.{MayCome}
 use Rattle.rx_history.specs.Logs.{Log}

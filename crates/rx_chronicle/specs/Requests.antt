@@ -37,7 +37,7 @@ abbrev pub Calm : Log → Type 0
 Calm c = NoRoot c.entries → NoneDue (length c.entries) (plan_told c)
 
 -- an entry may be asked for: there is room, and nothing is due
-pub record IsReady (c : Log) : Type 0 where
+pub record MayAskEntry (c : Log) : Type 0 where
   pub room : 0 < c.spare
   pub calm : Calm c
 
@@ -89,7 +89,7 @@ IsRootRefused T (Lost place at) = ⊥
 IsRootRefused T (NotYet place) = IsHindered T the_root place
 
 -- what every chronicle's history is: what a ledger can know, and nothing follows the root's release
-pub record IsLawful (c : Log) : Type 0 where
+pub record ChronicleInvariant (c : Log) : Type 0 where
   pub proper : Proper (given c.setup)
   pub folds : Folds (given c.setup) c.entries
   pub root_last : RootLast c.entries

@@ -6,7 +6,7 @@ ghost use Rattle.rx_finish.specs.Callers.{MayAskRelease};
 ghost use Rattle.rx_finish.specs.Calls.{is_ready};
 ghost use Rattle.rx_history.specs.Setups.{given, to_join};
 ghost use Rattle.rx_chronicle.specs.Told.{opener_told, parent_told, HasDead};
-ghost use Rattle.rx_chronicle.specs.Requests.{tree_told, IsLawful};
+ghost use Rattle.rx_chronicle.specs.Requests.{tree_told, ChronicleInvariant};
 
 use crate::notes::Note;
 use rx_base::{NoMemory, PlaceSet, ScopeId, TaskId};
@@ -130,7 +130,7 @@ impl<L: FinishLedger> Chronicle<L> {
 
     /// A law of contracts: the history of every chronicle is what a ledger can know, and nothing follows the root's release.
     pub fn is_lawful(&self)
-        ensures { IsLawful self.now }
+        ensures { ChronicleInvariant self.now }
     {
         let _ended = self.ended;
     }

@@ -57,7 +57,7 @@ impl<L: FinishLedger> Chronicle<L> {
         requires due { HasDue self.old (Death place) }
         ensures { self.new ≡ with_entry self.old (Death place) }
     {
-        rx_sound::dead_are_as_told();
+        rx_tree_laws::dead_are_as_told();
         self.ledger.death(place, at);
         self.history.add(Entry::Death { place });
         self.plan.done();

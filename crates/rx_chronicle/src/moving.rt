@@ -2,7 +2,7 @@
 ghost use Rattle.std.specs.Prelude.{◌≡◌, OnErr};
 ghost use Rattle.rx_finish.specs.Callers.{MayAskMoving, MayAskArrive};
 ghost use Rattle.rx_finish.specs.Calls.{landing};
-ghost use Rattle.rx_chronicle.specs.Requests.{tree_told, IsReady, Replied, NoWait};
+ghost use Rattle.rx_chronicle.specs.Requests.{tree_told, MayAskEntry, Replied, NoWait};
 
 use crate::chronicle::Chronicle;
 use crate::entry::{add, taken};
@@ -13,7 +13,7 @@ use rx_rules::Act;
 impl<L: FinishLedger> Chronicle<L> {
     /// Makes a travelling task live.
     pub fn arrive(&mut self, who: Caller, batch: &mut Batch) -> Result<(), LedgerFault>
-        requires ready { IsReady self.old }
+        requires ready { MayAskEntry self.old }
         requires asks { MayAskArrive (tree_told self.old) who }
         ensures answer { Replied self.old who NoWait batch.old (λ _. Act.Arrive (landing who.place)) result self.new }
         ensures back { OnErr result (batch.new ≡ batch.old) }
@@ -33,7 +33,7 @@ impl<L: FinishLedger> Chronicle<L> {
         batch: &mut Batch,
         path: &mut Path,
     ) -> Result<(), LedgerFault>
-        requires ready { IsReady self.old }
+        requires ready { MayAskEntry self.old }
         requires asks { MayAskMoving (tree_told self.old) who }
         ensures answer { Replied self.old who NoWait batch.old (λ _. Act.Print value path.old) result self.new }
         ensures back { OnErr result ((batch.new ≡ batch.old) × (path.new ≡ path.old)) }
@@ -52,7 +52,7 @@ impl<L: FinishLedger> Chronicle<L> {
         batch: &mut Batch,
         path: &mut Path,
     ) -> Result<u8, LedgerFault>
-        requires ready { IsReady self.old }
+        requires ready { MayAskEntry self.old }
         requires asks { MayAskMoving (tree_told self.old) who }
         ensures answer { Replied self.old who NoWait batch.old (λ places. Act.Census places path.old) result self.new }
         ensures back { OnErr result ((batch.new ≡ batch.old) × (path.new ≡ path.old)) }

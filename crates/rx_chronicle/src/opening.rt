@@ -3,7 +3,7 @@ ghost use Rattle.std.specs.Prelude.{◌≡◌, IfOk, OnErr, is_some};
 ghost use Rattle.rx_rules.specs.Tree.{death_of};
 ghost use Rattle.rx_rules.specs.Entries.{place_number};
 ghost use Rattle.rx_finish.specs.Callers.{MayAskMoving, MayAskTo};
-ghost use Rattle.rx_chronicle.specs.Requests.{tree_told, IsReady, Replied, NoWait};
+ghost use Rattle.rx_chronicle.specs.Requests.{tree_told, MayAskEntry, Replied, NoWait};
 
 use crate::chronicle::Chronicle;
 use crate::entry::{add, taken};
@@ -20,7 +20,7 @@ impl<L: FinishLedger> Chronicle<L> {
         batch: &mut Batch,
         path: &mut Path,
     ) -> Result<ScopeId, LedgerFault>
-        requires ready { IsReady self.old }
+        requires ready { MayAskEntry self.old }
         requires asks { MayAskMoving (tree_told self.old) who }
         ensures answer { Replied self.old who NoWait batch.old (λ scope. Act.Open scope who.inner path.old) result self.new }
         ensures back { OnErr result ((batch.new ≡ batch.old) × (path.new ≡ path.old)) }
@@ -47,7 +47,7 @@ impl<L: FinishLedger> Chronicle<L> {
         batch: &mut Batch,
         path: &mut Path,
     ) -> Result<Born, LedgerFault>
-        requires ready { IsReady self.old }
+        requires ready { MayAskEntry self.old }
         requires asks { MayAskTo (tree_told self.old) who to }
         ensures answer { Replied self.old who NoWait batch.old
             (λ born. Act.At (place_number who.place) to born.scope who.inner born.child path.old) result self.new }
@@ -78,7 +78,7 @@ impl<L: FinishLedger> Chronicle<L> {
         batch: &mut Batch,
         path: &mut Path,
     ) -> Result<Born, LedgerFault>
-        requires ready { IsReady self.old }
+        requires ready { MayAskEntry self.old }
         requires asks { MayAskTo (tree_told self.old) who to }
         ensures answer { Replied self.old who NoWait batch.old
             (λ born. Act.Spawn born.child born.scope (place_number who.place) to path.old) result self.new }

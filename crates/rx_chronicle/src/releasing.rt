@@ -2,7 +2,7 @@
 ghost use Rattle.std.specs.Prelude.{◌≡◌, ◌≤◌, length, vec_capacity, IfErr, OnOk, OnErr};
 ghost use Rattle.rx_finish.specs.Callers.{MayAskRelease};
 ghost use Rattle.rx_finish.specs.Calls.{IsHindered};
-ghost use Rattle.rx_chronicle.specs.Requests.{tree_told, IsReady, Replied, RootDone, IsRootRefused};
+ghost use Rattle.rx_chronicle.specs.Requests.{tree_told, MayAskEntry, Replied, RootDone, IsRootRefused};
 
 use crate::chronicle::Chronicle;
 use crate::entry::add;
@@ -14,7 +14,7 @@ use rx_rules::{Act, Entry};
 impl<L: FinishLedger> Chronicle<L> {
     /// Releases the scope at which the caller waits.
     pub fn release(&mut self, who: Caller, batch: &mut Batch) -> Result<Outcome, LedgerFault>
-        requires ready { IsReady self.old }
+        requires ready { MayAskEntry self.old }
         requires asks { MayAskRelease (tree_told self.old) who }
         ensures answer { Replied self.old who (IsHindered (tree_told self.old) who.inner) batch.old
             (λ o. Act.Release who.inner o.lost o.masked o.thrown) result self.new }
@@ -38,12 +38,12 @@ impl<L: FinishLedger> Chronicle<L> {
 
     /// The host's release of the root. Once that is done, it changes nothing.
     pub fn root(&mut self) -> Result<(), LedgerFault>
-        requires ready { IsReady self.old }
+        requires ready { MayAskEntry self.old }
         ensures done { OnOk result (RootDone self.old self.new) }
         ensures refused { IfErr result (IsRootRefused (tree_told self.old)) }
         ensures same { OnErr result (self.new ≡ self.old) }
     {
-        rx_sound::root_stands_until_released();
+        rx_tree_laws::root_stands_until_released();
         if self.ended {
             return Ok(());
         }

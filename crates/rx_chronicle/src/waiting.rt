@@ -1,7 +1,7 @@
 // The requests that hand faults to the ledger.
 ghost use Rattle.std.specs.Prelude.{◌≡◌, IfErr};
 ghost use Rattle.rx_finish.specs.Callers.{MayAskWait, MayAskEnd};
-ghost use Rattle.rx_chronicle.specs.Requests.{tree_told, IsReady, Replied, NoWait, fault_of};
+ghost use Rattle.rx_chronicle.specs.Requests.{tree_told, MayAskEntry, Replied, NoWait, fault_of};
 
 use crate::chronicle::Chronicle;
 use crate::entry::add;
@@ -18,7 +18,7 @@ impl<L: FinishLedger> Chronicle<L> {
         thrown: Faults,
         batch: &mut Batch,
     ) -> Result<(), (LedgerFault, Faults)>
-        requires ready { IsReady self.old }
+        requires ready { MayAskEntry self.old }
         requires asks { MayAskWait (tree_told self.old) who }
         ensures answer { Replied self.old who NoWait batch.old (λ _. Act.Wait who.inner thrown) (fault_of result) self.new }
         ensures back { IfErr result (λ r. (r.1 ≡ thrown) × (batch.new ≡ batch.old)) }
@@ -47,7 +47,7 @@ impl<L: FinishLedger> Chronicle<L> {
         thrown: Faults,
         batch: &mut Batch,
     ) -> Result<(), (LedgerFault, Faults)>
-        requires ready { IsReady self.old }
+        requires ready { MayAskEntry self.old }
         requires asks { MayAskEnd (tree_told self.old) who }
         ensures answer { Replied self.old who NoWait batch.old (λ _. Act.End thrown) (fault_of result) self.new }
         ensures back { IfErr result (λ r. (r.1 ≡ thrown) × (batch.new ≡ batch.old)) }

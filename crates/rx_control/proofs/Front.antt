@@ -12,7 +12,7 @@ use Rattle.rx_control.specs.declared.frame.Frame.{Frame}
 use Rattle.rx_control.specs.declared.frame.Frame.TheVariants.{Seq}
 use Rattle.rx_control.specs.Stands.{path_of, FramesStand}
 use Rattle.rx_history.specs.Next.{next_of}
-use Rattle.rx_control.specs.Inside.Front.{lifted, Awaits}
+use Rattle.rx_control.specs.Inside.Front.{lifted, PositionStands}
 use Rattle.rx_control.proofs.Wrapping.{does-wrap}
 use Rattle.rx_control.proofs.Moves.{top-stands, path-snoc}
 
@@ -37,7 +37,7 @@ pub record Statement (s : Shape) (base : List ℕ) (below : List Frame) (block :
   pub more : Block
   pub others : List Level
   pub is : levels ≡ More (Then stmt more) (path_of base below ++ option_to_list part) next ∷ others
-  pub awaits : Awaits s block next stmt more
+  pub awaits : PositionStands s block next stmt more
   pub rest : FramesStand s base below others
 
 pub statement : (s : Shape) (base : List ℕ) (below : List Frame) (block : BlockId) (next : ℕ) (part : Option ℕ) (levels : List Level) → FramesStand s base (below ++ Seq block next part ∷ []) levels → Settled None levels → Statement s base below block next part levels
@@ -80,12 +80,12 @@ first-id s n ids stmt more h = by-list (drop n ids) refl h
     by-list [] q k = absurd k
     by-list (i ∷ l) q k = omega (arith, ap length q, length-drop n ids)
 
-pub awaits-within : (s : Shape) (block : BlockId) (next : ℕ) (stmt : Stmt) (more : Block) (n : ℕ) → Awaits s block next stmt more → IfSome (slice_get s.blocks block.0) (λ ids. n ≡ length ids) → next < n
+pub awaits-within : (s : Shape) (block : BlockId) (next : ℕ) (stmt : Stmt) (more : Block) (n : ℕ) → PositionStands s block next stmt more → IfSome (slice_get s.blocks block.0) (λ ids. n ≡ length ids) → next < n
 awaits-within s block next stmt more n a h =
     let l : n ≡ length a.ids = let P : Option (List StmtId) → Type 0 = λ o. IfSome o (λ ids. n ≡ length ids) in subst P a.block_is h in
     omega (arith, l, first-id s next a.ids stmt more a.left)
 
-pub awaits-item : (s : Shape) (block : BlockId) (next : ℕ) (stmt : Stmt) (more : Block) → Awaits s block next stmt more → IfSome (slice_get s.blocks block.0) (λ ids. next < length ids)
+pub awaits-item : (s : Shape) (block : BlockId) (next : ℕ) (stmt : Stmt) (more : Block) → PositionStands s block next stmt more → IfSome (slice_get s.blocks block.0) (λ ids. next < length ids)
 awaits-item s block next stmt more a =
     let P : Option (List StmtId) → Type 0 = λ o. IfSome o (λ ids. next < length ids) in
     subst P (sym a.block_is) (first-id s next a.ids stmt more a.left)
@@ -99,7 +99,7 @@ pub record Taken (s : Shape) (block : BlockId) (next : ℕ) (stmt : Stmt) (more 
   pub block_is : slice_get s.blocks block.0 ≡ Some ids
   pub left : ListStands s (drop (next + 1) ids) more
 
-pub awaits-taken : (s : Shape) (block : BlockId) (next : ℕ) (stmt : Stmt) (more : Block) (id : StmtId) → Awaits s block next stmt more → IfSome (slice_get s.blocks block.0) (λ ids. slice_get ids next ≡ Some id) → Taken s block next stmt more id
+pub awaits-taken : (s : Shape) (block : BlockId) (next : ℕ) (stmt : Stmt) (more : Block) (id : StmtId) → PositionStands s block next stmt more → IfSome (slice_get s.blocks block.0) (λ ids. slice_get ids next ≡ Some id) → Taken s block next stmt more id
 awaits-taken s block next stmt more id a h =
     let g : slice_get a.ids next ≡ Some id = let P : Option (List StmtId) → Type 0 = λ o. IfSome o (λ ids. slice_get ids next ≡ Some id) in subst P a.block_is h in
     let e = at_drop_more {Y = List StmtId} (λ l. l) a.ids next id (slice_get_within a.ids next id g) ∙ ap (λ y. y ∷ drop (next + 1) a.ids) (get_or_from_slice_get a.ids next id id g) in
@@ -108,13 +108,13 @@ awaits-taken s block next stmt more id a h =
     record { node = k.0.0; there = k.0.1; is = k.0.2; ids = a.ids; block_is = a.block_is; left = k.1 }
 
 -- the frame after a statement
-pub awaits-more : (s : Shape) (block : BlockId) (next : ℕ) (stmt : Stmt) (more : Block) → (a : Awaits s block next stmt more) → ListStands s (drop (next + 1) a.ids) more
+pub awaits-more : (s : Shape) (block : BlockId) (next : ℕ) (stmt : Stmt) (more : Block) → (a : PositionStands s block next stmt more) → ListStands s (drop (next + 1) a.ids) more
 awaits-more s block next stmt more a =
     let P : List StmtId → Type 0 = λ l. ListStands s l (Then stmt more) in
     let d : StmtId = record { 0 = 0 } in
     let k = subst P (at_drop_more {Y = List StmtId} (λ l. l) a.ids next d (first-id s next a.ids stmt more a.left)) a.left in k.1
 
-pub gone-on : (s : Shape) (base : List ℕ) (below frames : List Frame) (block : BlockId) (next : ℕ) (part : Option ℕ) (stmt : Stmt) (more : Block) (others : List Level) → Awaits s block next stmt more → FramesStand s base below others → frames ≡ below ++ Seq block (next + 1) part ∷ [] → FramesStand s base frames (More more (path_of base below ++ option_to_list part) (suc next) ∷ others)
+pub gone-on : (s : Shape) (base : List ℕ) (below frames : List Frame) (block : BlockId) (next : ℕ) (part : Option ℕ) (stmt : Stmt) (more : Block) (others : List Level) → PositionStands s block next stmt more → FramesStand s base below others → frames ≡ below ++ Seq block (next + 1) part ∷ [] → FramesStand s base frames (More more (path_of base below ++ option_to_list part) (suc next) ∷ others)
 gone-on s base below frames block next part stmt more others a h e = (
   Seq block (next + 1) part,
   below,

@@ -7,7 +7,7 @@ use Rattle.rx_control.specs.Levels.{More, seq, wrap, term_of}
 use Rattle.rx_control.specs.declared.frame.Frame.{Frame}
 use Rattle.rx_control.specs.declared.frame.Frame.TheVariants.{Turns, Try, Body, Held}
 use Rattle.rx_control.specs.declared.control.Control.{Control}
-use Rattle.rx_control.specs.Stands.{path_of, StandsFor, Leaves}
+use Rattle.rx_control.specs.Stands.{path_of, StandsFor, AfterLocalStep}
 use Rattle.rx_history.specs.Next.{next_of}
 use Rattle.rx_history.specs.declared.step.Next.TheVariants.{Local as LocalStep}
 use Rattle.rx_control.specs.Inside.Front.{lifted, AtStatement}
@@ -51,12 +51,12 @@ raised-end-does s c t faults r e h vars here =
     ap (does vars here) (at-end s c t e h ∙ ap (λ r. term_of r []) r)
 
 -- at the end of a finish's body the ledger is asked
-pub inside-leaves : (s : Shape) (c d : Control) (t : Term) (below : List Frame) (a : AtTop s c t below Body) (vars : Vars) (here : ℕ) → Leaves s d (does vars here t)
+pub inside-leaves : (s : Shape) (c d : Control) (t : Term) (below : List Frame) (a : AtTop s c t below Body) (vars : Vars) (here : ℕ) → AfterLocalStep s d (does vars here t)
 inside-leaves s c d t below a vars here = by-raised c.raised refl
   where
-    by-raised : (r : Option (List Fault)) → c.raised ≡ r → Leaves s d (does vars here t)
-    by-raised None e = let P : Does → Type 0 = λ x. Leaves s d x in subst P (sym (inside-does s c t below e a vars here)) tt
-    by-raised (Some faults) e = let P : Does → Type 0 = λ x. Leaves s d x in subst P (sym (raised-inside-does s c t below faults e a vars here)) tt
+    by-raised : (r : Option (List Fault)) → c.raised ≡ r → AfterLocalStep s d (does vars here t)
+    by-raised None e = let P : Does → Type 0 = λ x. AfterLocalStep s d x in subst P (sym (inside-does s c t below e a vars here)) tt
+    by-raised (Some faults) e = let P : Does → Type 0 = λ x. AfterLocalStep s d x in subst P (sym (raised-inside-does s c t below faults e a vars here)) tt
 
 -- turns and tries go on by local steps
 pub turns-local : (s : Shape) (c : Control) (t : Term) (below : List Frame) (body : BlockId) (k n : ℕ) (a : AtTop s c t below (Turns body k n)) (vars : Vars) (here : ℕ) → next_of (does vars here t) ≡ LocalStep

@@ -8,14 +8,14 @@ use Rattle.rx_control.specs.Levels.{Level, More, Again, Tried, wrap, term_of}
 use Rattle.rx_control.specs.declared.frame.Frame.{Frame}
 use Rattle.rx_control.specs.declared.frame.Frame.TheVariants.{Seq, Turns, Try, Body}
 use Rattle.rx_control.specs.declared.control.Control.{Control}
-use Rattle.rx_control.specs.Stands.{path_of, FramesStand, Leaves}
+use Rattle.rx_control.specs.Stands.{path_of, FramesStand, AfterLocalStep}
 use Rattle.rx_control.specs.Inside.Front.{lifted, SettlesTo, AtStatement}
 use Rattle.rx_control.proofs.Moves.{path-snoc}
 use Rattle.rx_control.proofs.Front.{gone-on, begun-path}
 use Rattle.rx_control.proofs.Standing.{settled-stands}
 
-pub leaves-by : (s : Shape) (c : Control) (d e : Does) → d ≡ e → Leaves s c e → Leaves s c d
-leaves-by s c d e q h = let P : Does → Type 0 = λ d. Leaves s c d in subst P (sym q) h
+pub leaves-by : (s : Shape) (c : Control) (d e : Does) → d ≡ e → AfterLocalStep s c e → AfterLocalStep s c d
+leaves-by s c d e q h = let P : Does → Type 0 = λ d. AfterLocalStep s c d in subst P (sym q) h
 
 -- a block is entered, the path of the statement being x
 pub entered : (s : Shape) (base : List ℕ) (below frames : List Frame) (block : BlockId) (b : Block) (x : List ℕ) (k : ℕ) (gs : List Level) → frames ≡ below ++ Seq block 0 (Some k) ∷ [] → path_of base below ≡ x → BlockStands s block b → FramesStand s base below gs → FramesStand s base frames (More b (at x k) 0 ∷ gs)
@@ -46,11 +46,11 @@ pub path-turns : (base : List ℕ) (below : List Frame) (b : BlockId) (k n : ℕ
 path-turns base below b k n = path-snoc base below (Turns b k n) ∙ append-nil (path_of base below)
 
 -- a local step is made
-pub done-leaves : (s : Shape) (c : Control) (gs : List Level) (d : Does) (left : Term) (vars : Vars) (levels : List Level) (r : Option (List Fault)) → d ≡ Local left vars → c.raised ≡ r → SettlesTo s c.base c.frames.items r levels → wrap left gs ≡ term_of r levels → c.vars ≡ vars → Leaves s c (lifted gs d)
+pub done-leaves : (s : Shape) (c : Control) (gs : List Level) (d : Does) (left : Term) (vars : Vars) (levels : List Level) (r : Option (List Fault)) → d ≡ Local left vars → c.raised ≡ r → SettlesTo s c.base c.frames.items r levels → wrap left gs ≡ term_of r levels → c.vars ≡ vars → AfterLocalStep s c (lifted gs d)
 done-leaves s c gs d left vars levels r e q h i v =
     leaves-by s c (lifted gs d) (lifted gs (Local left vars)) (ap (lifted gs) e) (settled-stands s c levels r (wrap left gs) q h i, v)
 
-pub step-leaves : (s : Shape) (c : Control) (d : Does) (left : Term) (vars : Vars) (levels : List Level) (r : Option (List Fault)) → d ≡ Local left vars → c.raised ≡ r → SettlesTo s c.base c.frames.items r levels → left ≡ term_of r levels → c.vars ≡ vars → Leaves s c d
+pub step-leaves : (s : Shape) (c : Control) (d : Does) (left : Term) (vars : Vars) (levels : List Level) (r : Option (List Fault)) → d ≡ Local left vars → c.raised ≡ r → SettlesTo s c.base c.frames.items r levels → left ≡ term_of r levels → c.vars ≡ vars → AfterLocalStep s c d
 step-leaves s c d left vars levels r e q h i v =
     leaves-by s c d (Local left vars) e (settled-stands s c levels r left q h i, v)
 

@@ -46,20 +46,20 @@ pub record StandsFor (s : Shape) (c : Control) (t : Term) : Type 0 where
   pub is : t ≡ term_of c.raised levels
 
 -- after a local step the control stands for the term that is left, with the variables that it leaves
-abbrev pub Leaves : Shape → Control → Does → Type 0
-Leaves s c (Local left vars) = StandsFor s c left × (c.vars ≡ vars)
-Leaves s c (Makes name words) = Unit {0}
-Leaves s c (Gets name target index) = Unit {0}
-Leaves s c (Puts target index value) = Unit {0}
-Leaves s c (Forgets target) = Unit {0}
-Leaves s c Opens = Unit {0}
-Leaves s c (Calls place) = Unit {0}
-Leaves s c (Spawns place) = Unit {0}
-Leaves s c (Waits faults) = Unit {0}
-Leaves s c Releases = Unit {0}
-Leaves s c (Prints value) = Unit {0}
-Leaves s c (Counts name) = Unit {0}
-Leaves s c (Done faults) = Unit {0}
+abbrev pub AfterLocalStep : Shape → Control → Does → Type 0
+AfterLocalStep s c (Local left vars) = StandsFor s c left × (c.vars ≡ vars)
+AfterLocalStep s c (Makes name words) = Unit {0}
+AfterLocalStep s c (Gets name target index) = Unit {0}
+AfterLocalStep s c (Puts target index value) = Unit {0}
+AfterLocalStep s c (Forgets target) = Unit {0}
+AfterLocalStep s c Opens = Unit {0}
+AfterLocalStep s c (Calls place) = Unit {0}
+AfterLocalStep s c (Spawns place) = Unit {0}
+AfterLocalStep s c (Waits faults) = Unit {0}
+AfterLocalStep s c Releases = Unit {0}
+AfterLocalStep s c (Prints value) = Unit {0}
+AfterLocalStep s c (Counts name) = Unit {0}
+AfterLocalStep s c (Done faults) = Unit {0}
 
 -- two controls with the same parts
 pub record IsSame (a b : Control) : Type 0 where

@@ -10,12 +10,12 @@ ghost use Rattle.rx_rules.specs.Plays.{vars_told};
 ghost use Rattle.rx_rules.specs.declared.entries.Act.{Act};
 ghost use Rattle.rx_syntax.specs.Shape.{Shape, Stands};
 ghost use Rattle.rx_control.specs.declared.frame.Frame.{Frame};
-ghost use Rattle.rx_control.specs.Stands.{StandsFor, path_of, Leaves, IsSame};
+ghost use Rattle.rx_control.specs.Stands.{StandsFor, path_of, AfterLocalStep, IsSame};
 ghost use Rattle.rx_control.specs.Seeds.{IsSeedOf};
 ghost use Rattle.rx_control.specs.Bound.{StepFalls};
 ghost use Rattle.rx_runs.specs.Steps.{steps};
 ghost use Rattle.rx_history.specs.Next.{next_of, carried};
-ghost use Rattle.rx_control.specs.Inside.Front.{lifted, Awaits, Due};
+ghost use Rattle.rx_control.specs.Inside.Front.{lifted, PositionStands, Due};
 
 use crate::birth::{Seed, born, seed_of, set_front, start};
 use crate::faults::{is_caught, one_fault};
@@ -202,8 +202,8 @@ impl Control {
         next: u32,
         path: Path,
     ) -> Result<Control, NoMemory>
-        requires { (stmt : Tree) × (more : Block) × Awaits script.now block next stmt more }
-        ensures { IfOk result (λ c. (stmt : Tree) (more : Block) → Awaits script.now block next stmt more
+        requires { (stmt : Tree) × (more : Block) × PositionStands script.now block next stmt more }
+        ensures { IfOk result (λ c. (stmt : Tree) (more : Block) → PositionStands script.now block next stmt more
             → StandsFor script.now c (stmt_child stmt path) × (c.vars ≡ self.now.vars)) }
     {
         let vars = self.vars.copy(alloc)?;
@@ -215,7 +215,7 @@ impl Control {
     pub fn local(&mut self, alloc: Global, p: &Program, here: PlaceId) -> Result<(), NoMemory>
         requires { (t : Term) × StandsFor p.now.script self.old t }
         ensures ok { OnOk result ((t : Term) → StandsFor p.now.script self.old t
-            → Leaves p.now.script self.new (does self.old.vars here.0 t)) }
+            → AfterLocalStep p.now.script self.new (does self.old.vars here.0 t)) }
         ensures other { (t : Term) → StandsFor p.now.script self.old t → next_of (does self.old.vars here.0 t) ≢ Next.Local
             → IsSame self.new self.old }
         ensures err { OnErr result (IsSame self.new self.old) }
@@ -230,7 +230,7 @@ impl Control {
         requires room { vec_len self.old.frames + 2 ≤ vec_capacity self.old.frames }
         requires stands { (t : Term) × StandsFor script.now self.old t }
         ensures ok { OnOk result ((t : Term) → StandsFor script.now self.old t
-            → Leaves script.now self.new (does self.old.vars here.0 t)) }
+            → AfterLocalStep script.now self.new (does self.old.vars here.0 t)) }
         ensures other { (t : Term) → StandsFor script.now self.old t → next_of (does self.old.vars here.0 t) ≢ Next.Local
             → IsSame self.new self.old }
         ensures err { OnErr result (IsSame self.new self.old) }
@@ -268,7 +268,7 @@ impl Control {
         requires room { vec_len self.old.frames + 2 ≤ vec_capacity self.old.frames }
         requires due { (t : Term) × (below : List Frame) × Due script.now self.old t below block next part plan }
         ensures done { OnOk result ((t : Term) (below : List Frame) → (h : Due script.now self.old t below block next part plan)
-            → Leaves script.now self.new (lifted h.front.others h.act)) }
+            → AfterLocalStep script.now self.new (lifted h.front.others h.act)) }
         ensures asks { (next : Next) → plan ≡ Plan.Ask next → IsSame self.new self.old }
         ensures err { OnErr result (IsSame self.new self.old) }
     {
@@ -322,7 +322,7 @@ impl Control {
             × (self.old.frames.items ≡ below ++ Frame.Turns body turn times ∷ []) }
         ensures { (here : PlaceId) (t : Term) (below : List Frame) → StandsFor script.now self.old t
             → self.old.frames.items ≡ below ++ Frame.Turns body turn times ∷ []
-            → Leaves script.now self.new (does self.old.vars here.0 t) }
+            → AfterLocalStep script.now self.new (does self.old.vars here.0 t) }
     {
         drop_top(&mut self.frames);
         if times <= turn {
@@ -345,7 +345,7 @@ impl Control {
             × (self.old.frames.items ≡ below ++ Frame.Try dead_only handler ∷ []) }
         ensures { (here : PlaceId) (t : Term) (below : List Frame) → StandsFor script.now self.old t
             → self.old.frames.items ≡ below ++ Frame.Try dead_only handler ∷ []
-            → Leaves script.now self.new (does self.old.vars here.0 t) }
+            → AfterLocalStep script.now self.new (does self.old.vars here.0 t) }
     {
         drop_top(&mut self.frames);
         match self.raised.take() {

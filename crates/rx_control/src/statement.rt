@@ -9,7 +9,7 @@ ghost use Rattle.rx_control.specs.declared.frame.Frame.{Frame};
 ghost use Rattle.rx_control.specs.declared.control.Control.{Control};
 ghost use Rattle.rx_control.specs.Levels.{Level};
 ghost use Rattle.rx_control.specs.Stands.{StandsFor, FramesStand, path_of};
-ghost use Rattle.rx_control.specs.Inside.Front.{Awaits, SettlesTo, levels_opened, name_in};
+ghost use Rattle.rx_control.specs.Inside.Front.{PositionStands, SettlesTo, levels_opened, name_in};
 
 use crate::frame::{Frame, enter, settle};
 use rx_base::{NoMemory, Value};
@@ -18,15 +18,15 @@ use rx_syntax::{BlockId, NameId, Script, Stmt};
 
 /// The statement at a position of a block.
 pub(crate) fn at_hand(script: &Script, block: BlockId, next: u32) -> Stmt
-    requires { (t : Tree) × (more : Block) × Awaits script.now block next t more }
-    ensures { (t : Tree) (more : Block) → Awaits script.now block next t more → StmtIs script.now result t }
+    requires { (t : Tree) × (more : Block) × PositionStands script.now block next t more }
+    ensures { (t : Tree) (more : Block) → PositionStands script.now block next t more → StmtIs script.now result t }
 {
     script.stmt(script.block_item(block, next))
 }
 
 /// The position after one that stands for a statement.
 pub(crate) fn following(script: &Script, block: BlockId, next: u32) -> u32
-    requires { (t : Tree) × (more : Block) × Awaits script.now block next t more }
+    requires { (t : Tree) × (more : Block) × PositionStands script.now block next t more }
     ensures { result ≡ next + 1 }
 {
     let n = script.block_len(block);

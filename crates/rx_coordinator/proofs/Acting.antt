@@ -10,14 +10,14 @@ use Rattle.rx_rules.specs.declared.entries.Act.TheVariants.{At as CallAct, Spawn
 use Rattle.rx_rules.specs.declared.entries.Entry.TheVariants.{Death as DeathEntry}
 use Rattle.rx_rules.specs.declared.entries.Entry.{Entry}
 use Rattle.rx_rules.proofs.Lookups.{number-of}
-use Rattle.rx_sound.specs.Sound.{Sound}
-use Rattle.rx_sound.proofs.Reached.{sound}
-use Rattle.rx_sound.proofs.Reach.{task_below}
-use Rattle.rx_sound.proofs.Opening.{own_chain}
-use Rattle.rx_sound.proofs.Waiting.{waiter_owns}
-use Rattle.rx_sound.proofs.Histories.{older-from, none_yet}
-use Rattle.rx_sound.proofs.Parents.{based}
-use Rattle.rx_sound.proofs.Changes.{each_found}
+use Rattle.rx_tree_laws.specs.Sound.{Sound}
+use Rattle.rx_tree_laws.proofs.Reached.{sound}
+use Rattle.rx_tree_laws.proofs.Reach.{task_below}
+use Rattle.rx_tree_laws.proofs.Opening.{own_chain}
+use Rattle.rx_tree_laws.proofs.Waiting.{waiter_owns}
+use Rattle.rx_tree_laws.proofs.Histories.{older-from, none_yet}
+use Rattle.rx_tree_laws.proofs.Parents.{based}
+use Rattle.rx_tree_laws.proofs.Changes.{each_found}
 use Rattle.rx_finish.specs.Callers.{MayAskArrive, MayAskWait, MayAskRelease, MayAskEnd, Travels, HasFinish, WaitsInside, IsBare, HasNumbers, HasRoot, does_travel}
 use Rattle.rx_counts.specs.declared.ledger.ScopeSeen.{ScopeSeen}
 use Rattle.rx_counts.specs.Seen.{seen}
@@ -30,7 +30,7 @@ use Rattle.rx_coordinator.specs.declared.requests.Request.{Request}
 use Rattle.rx_coordinator.specs.declared.requests.Request.TheVariants.{At as CallIt, Spawn, Wait, End, Death}
 use Rattle.rx_coordinator.specs.declared.requests.Answer.{Answer}
 use Rattle.rx_coordinator.specs.declared.requests.Answer.TheVariants.{Called, Spawned, Waits, Ended, Died}
-use Rattle.rx_coordinator.specs.Stands.{Stands, Told, HasEntry, Asked}
+use Rattle.rx_coordinator.specs.Stands.{StandsAfter, Told, HasEntry, IsReplyTo}
 use Rattle.rx_coordinator.specs.Inside.Rows.{finish_in, parent_in, parent_or_root, away_in, held_in}
 use Rattle.rx_coordinator.proofs.Finding.{scope_found}
 use Rattle.rx_coordinator.proofs.Telling.{own_spawn, others_told}
@@ -44,7 +44,7 @@ pub record AwaySeat (T : Tree) (t : TaskId) (w : Seat) : Type 0 where
   pub may : MayAskArrive T w.who
   pub goes : does_travel seat.task.place ≡ true
 
-pub away_seat : (c : Coordinator) (p : ℕ) (es : List Entry) → Stands c p es → (t : TaskId) (w : Seat) → away_in (seat_at c.seats t.0) ≡ Some w → AwaySeat (tree_of p es) t w
+pub away_seat : (c : Coordinator) (p : ℕ) (es : List Entry) → StandsAfter c p es → (t : TaskId) (w : Seat) → away_in (seat_at c.seats t.0) ≡ Some w → AwaySeat (tree_of p es) t w
 away_seat c p es st t w e = of_row (seat_at c.seats t.0) refl e where
   of_row : (o : Option Seat) → seat_at c.seats t.0 ≡ o → away_in o ≡ Some w → AwaySeat (tree_of p es) t w
   of_row None k j = absurd (let v : ⊥ = cc in v)
@@ -96,7 +96,7 @@ has_parent T t w s g r own =
       | Some q ↦ λ k. refl
     ]) refl
 
-pub held_seat : (c : Coordinator) (p : ℕ) (es : List Entry) → Stands c p es → (t : TaskId) (w : Seat) → held_in (seat_at c.seats t.0) ≡ Some w → HeldSeat (tree_of p es) t w
+pub held_seat : (c : Coordinator) (p : ℕ) (es : List Entry) → StandsAfter c p es → (t : TaskId) (w : Seat) → held_in (seat_at c.seats t.0) ≡ Some w → HeldSeat (tree_of p es) t w
 held_seat c p es st t w e = of_row (seat_at c.seats t.0) refl e where
   of_row : (o : Option Seat) → seat_at c.seats t.0 ≡ o → held_in o ≡ Some w → HeldSeat (tree_of p es) t w
   of_row None k j = absurd (let v : ⊥ = cc in v)
@@ -226,8 +226,8 @@ pub no_death : (T : Tree) (d : PlaceId) → (Allowed T (DeathEntry d) → ⊥) �
 no_death T d out h = out (die_asks T d h.0 h.1 h.2 h.3)
 
 -- The same coordinator after another way through the code.
-pub asked_as : (p : ℕ) (es : List Entry) (q : Request) (a b : Answer) (c d : Coordinator) → a ≡ b → c ≡ d → Asked p es q b (Stands d p) → Asked p es q a (Stands c p)
-asked_as p es q a b c d e f h = subst (λ (x : Answer). Asked p es q x (Stands c p)) (sym e) (subst (λ (x : Coordinator). Asked p es q b (Stands x p)) (sym f) h)
+pub asked_as : (p : ℕ) (es : List Entry) (q : Request) (a b : Answer) (c d : Coordinator) → a ≡ b → c ≡ d → IsReplyTo p es q b (StandsAfter d p) → IsReplyTo p es q a (StandsAfter c p)
+asked_as p es q a b c d e f h = subst (λ (x : Answer). IsReplyTo p es q x (StandsAfter c p)) (sym e) (subst (λ (x : Coordinator). IsReplyTo p es q b (StandsAfter x p)) (sym f) h)
 
 -- who is not yet born has no row
 pub none_yet_told : (T : Tree) (t : TaskId) → Reached T → T.next_task ≤ t.0 → seat_told T t ≡ None
@@ -304,7 +304,7 @@ parent_told None v e = absurd (let x : ⊥ = cc in x)
 parent_told (Some g) v e = (let same : seen g ≡ v = some_same (seen g) v e in ap (λ (x : ScopeSeen). parent_or_root x.parent) (sym same))
 
 -- each death stands before the next entry
-pub later_than : (c : Coordinator) (p : ℕ) (es : List Entry) → Stands c p es → All (IsOlder c.entries) (tree_of p es).dead
+pub later_than : (c : Coordinator) (p : ℕ) (es : List Entry) → StandsAfter c p es → All (IsOlder c.entries) (tree_of p es).dead
 later_than c p es st = subst (λ (n : ℕ). All (IsOlder n) (tree_of p es).dead) (sym st.count) (let zero_less : 0 + length es ≡ length es = omega arith in subst (λ (n : ℕ). All (IsOlder n) (tree_of p es).dead) zero_less (older-from 0 (opening p) es none_yet))
 
 pub some_is : {X : Type 0} (o : Option X) (x : X) → o ≡ Some x → IsSome o

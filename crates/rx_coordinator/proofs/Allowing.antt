@@ -13,7 +13,7 @@ use Rattle.rx_coordinator.specs.declared.coordinator.Coordinator.{Coordinator}
 use Rattle.rx_coordinator.specs.declared.requests.Request.{Request}
 use Rattle.rx_coordinator.specs.declared.requests.Request.TheVariants.{Open, At as CallIt, Spawn, Arrive, Wait, End, Death, Join}
 use Rattle.rx_coordinator.specs.declared.requests.Answer.TheVariants.{Opened, Called, Spawned, Landed, Waits, Ended, Died, Joined}
-use Rattle.rx_coordinator.specs.Stands.{Stands, HasEntry, Awaits, IsUsedUp, turns}
+use Rattle.rx_coordinator.specs.Stands.{StandsAfter, HasEntry, Awaits, IsUsedUp, turns}
 use Rattle.rx_coordinator.specs.Inside.Rows.{finish_in}
 use Rattle.rx_coordinator.proofs.Asking.{LiveSeat}
 use Rattle.rx_coordinator.proofs.Acting.{AwaySeat, HeldSeat, own_of, finish_of, bare_of}
@@ -73,7 +73,7 @@ pub may_release : (T : Tree) (t : TaskId) (w : Seat) → HeldSeat T t w → Awai
 may_release T t w h = record { task = h.seat.task; stands = h.seat.stands; unstruck = h.seat.unstruck; waits = h.waits }
 
 -- no entry more may be added
-pub used_up : (c : Coordinator) (p : ℕ) (es : List Entry) → Stands c p es → 2 ^ 32 - 1 ≤ c.entries → (q : Request) → 1 ≤ turns q → IsUsedUp (tree_of p es) (length es) q
+pub used_up : (c : Coordinator) (p : ℕ) (es : List Entry) → StandsAfter c p es → 2 ^ 32 - 1 ≤ c.entries → (q : Request) → 1 ≤ turns q → IsUsedUp (tree_of p es) (length es) q
 used_up c p es st full q one =
     let same : c.entries ≡ length es = st.count in
     inl (omega (arith, full, one, same))

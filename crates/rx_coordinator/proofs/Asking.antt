@@ -22,7 +22,7 @@ use Rattle.rx_coordinator.specs.declared.seats.Seats.{Seats}
 use Rattle.rx_coordinator.specs.declared.coordinator.Coordinator.{Coordinator}
 use Rattle.rx_coordinator.specs.Seats.{seat_at}
 use Rattle.rx_coordinator.specs.Telling.{seat_of, seat_in, seat_told}
-use Rattle.rx_coordinator.specs.Stands.{Stands}
+use Rattle.rx_coordinator.specs.Stands.{StandsAfter}
 use Rattle.rx_coordinator.specs.Inside.Rows.{live_in}
 
 -- the task of a row
@@ -110,7 +110,7 @@ live_moving T t w s waits stays =
 
 -- One entry more.
 
-pub stands_after : (c c' : Coordinator) (p : ℕ) (es : List Entry) (e : Entry) → Stands c p es → Allowed (tree_of p es) e → StandsFor c'.ledger (16 - (made (length es) (tree_of p es) e).places) (made (length es) (tree_of p es) e) → HasNumbers (made (length es) (tree_of p es) e) → c'.entries ≡ c.entries + 1 → ((t : TaskId) → seat_at c'.seats t.0 ≡ seat_told (made (length es) (tree_of p es) e) t) → Stands c' p (es ++ e ∷ [])
+pub stands_after : (c c' : Coordinator) (p : ℕ) (es : List Entry) (e : Entry) → StandsAfter c p es → Allowed (tree_of p es) e → StandsFor c'.ledger (16 - (made (length es) (tree_of p es) e).places) (made (length es) (tree_of p es) e) → HasNumbers (made (length es) (tree_of p es) e) → c'.entries ≡ c.entries + 1 → ((t : TaskId) → seat_at c'.seats t.0 ≡ seat_told (made (length es) (tree_of p es) e) t) → StandsAfter c' p (es ++ e ∷ [])
 stands_after c c' p es e st may stood few more seats =
     let push = sym (tree-push p es e) in
     let long : length (es ++ e ∷ []) ≡ length es + 1 = (let a = length-append es (e ∷ []) in omega (arith, a)) in
@@ -125,7 +125,7 @@ stands_after c c' p es e st may stood few more seats =
     }
 
 -- an act of a task
-pub act_after : (c c' : Coordinator) (p : ℕ) (es : List Entry) (t : TaskId) (act : Act) → Stands c p es → AllowedAct (tree_of p es) t act → StandsFor c'.ledger (16 - (tree_of p es).places) (made_act (tree_of p es) t act) → HasNumbers (made_act (tree_of p es) t act) → c'.entries ≡ c.entries + 1 → ((u : TaskId) → seat_at c'.seats u.0 ≡ seat_told (made_act (tree_of p es) t act) u) → Stands c' p (es ++ Step t act [] ∷ [])
+pub act_after : (c c' : Coordinator) (p : ℕ) (es : List Entry) (t : TaskId) (act : Act) → StandsAfter c p es → AllowedAct (tree_of p es) t act → StandsFor c'.ledger (16 - (tree_of p es).places) (made_act (tree_of p es) t act) → HasNumbers (made_act (tree_of p es) t act) → c'.entries ≡ c.entries + 1 → ((u : TaskId) → seat_at c'.seats u.0 ≡ seat_told (made_act (tree_of p es) t act) u) → StandsAfter c' p (es ++ Step t act [] ∷ [])
 act_after c c' p es t act st may stood few more seats =
     stands_after c c' p es (Step t act []) st may
     (subst (λ (n : ℕ). StandsFor c'.ledger (16 - n) (made_act (tree_of p es) t act)) (sym (act-places (tree_of p es) t act)) stood) few more seats
@@ -146,7 +146,7 @@ pub record LiveSeat (T : Tree) (t : TaskId) (w : Seat) : Type 0 where
   pub moving : IsMoving seat.task
   pub may : MayAskMoving T w.who
 
-pub live_seat : (c : Coordinator) (p : ℕ) (es : List Entry) → Stands c p es → (t : TaskId) (w : Seat) → live_in (seat_at c.seats t.0) ≡ Some w → LiveSeat (tree_of p es) t w
+pub live_seat : (c : Coordinator) (p : ℕ) (es : List Entry) → StandsAfter c p es → (t : TaskId) (w : Seat) → live_in (seat_at c.seats t.0) ≡ Some w → LiveSeat (tree_of p es) t w
 live_seat c p es st t w e =
     let T : Tree = tree_of p es in
     let row = live_is (seat_at c.seats t.0) w e in

@@ -5,8 +5,8 @@ use Rattle.std.proofs.lemmas.Bool.{eqb-true, eq-eqb, ne_eqb}
 use Rattle.rx_rules.proofs.Common.{TaskId, is_task, is_scope, change_first}
 use Rattle.rx_rules.specs.declared.tasks.Task.{Task}
 use Rattle.rx_rules.specs.declared.tasks.Scope.{Scope}
-use Rattle.rx_sound.specs.Chains.{Falls}
-use Rattle.rx_sound.proofs.Below.{found_low}
+use Rattle.rx_tree_laws.specs.Chains.{Falls}
+use Rattle.rx_tree_laws.proofs.Below.{found_low}
 
 -- a task of another number is found as before
 pub other_found : (u t : TaskId) (f : Task → Task) → ((x : Task) → (f x).number ≡ x.number) → t.0 ≢ u.0 → (xs : List Task) → find (is_task t) (change_first (is_task u) f xs) ≡ find (is_task t) xs

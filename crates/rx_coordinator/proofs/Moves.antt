@@ -13,11 +13,11 @@ use Rattle.rx_rules.specs.declared.entries.Act.TheVariants.{Open as OpenAct, At 
 use Rattle.rx_rules.specs.declared.entries.Entry.{Entry}
 use Rattle.rx_rules.specs.declared.entries.Entry.TheVariants.{Step, Join as JoinEntry, Death as DeathEntry, Root as RootEntry}
 use Rattle.rx_rules.proofs.Append.{tree-push}
-use Rattle.rx_sound.proofs.Reached.{sound}
-use Rattle.rx_sound.proofs.Stay.{find_filter}
-use Rattle.rx_sound.proofs.Reach.{task_below}
-use Rattle.rx_sound.proofs.Opening.{own_place}
-use Rattle.rx_sound.proofs.Freeing.{way_stays}
+use Rattle.rx_tree_laws.proofs.Reached.{sound}
+use Rattle.rx_tree_laws.proofs.Stay.{find_filter}
+use Rattle.rx_tree_laws.proofs.Reach.{task_below}
+use Rattle.rx_tree_laws.proofs.Opening.{own_place}
+use Rattle.rx_tree_laws.proofs.Freeing.{way_stays}
 use Rattle.rx_finish.specs.declared.ledger.Outcome.{Outcome}
 use Rattle.rx_coordinator.specs.declared.seats.Seat.{Seat}
 use Rattle.rx_coordinator.specs.declared.coordinator.Coordinator.{Coordinator}
@@ -31,12 +31,12 @@ use Rattle.rx_coordinator.specs.declared.waiters.Waiters.{Waiters}
 use Rattle.rx_coordinator.specs.declared.waiters.Due.{Due}
 use Rattle.rx_coordinator.specs.declared.parking.Parking.{Parking}
 use Rattle.rx_coordinator.specs.Telling.{seat_of, seat_told}
-use Rattle.rx_coordinator.specs.Waiters.{waiter_at, IsDue}
+use Rattle.rx_coordinator.specs.Waiters.{waiter_at, ScopeIsDue}
 use Rattle.rx_coordinator.specs.Seats.{seat_at}
 use Rattle.rx_coordinator.specs.Inside.Rows.{held_in, scope_in}
 use Rattle.rx_coordinator.specs.Inside.Walks.{AllThere, AllDue, NextDue, ParkedIs, IsLeft}
-use Rattle.rx_coordinator.specs.Stands.{Stands, Asked, Landing, Awaits, May, Busy}
-use Rattle.rx_coordinator.specs.Parking.{AllWait, Parks, WaitsThere, HasToWait, IsParked, Puts, AskedBeside, PassedBy, waiter_of, request_of, answer_to, scope_numbered}
+use Rattle.rx_coordinator.specs.Stands.{StandsAfter, IsReplyTo, Landing, Awaits, May, Busy}
+use Rattle.rx_coordinator.specs.Parking.{AllWait, Parks, WaiterIsThere, HasToWait, IsParked, Puts, AskedBeside, PassedBy, waiter_of, request_of, answer_to, scope_numbered}
 use Rattle.rx_coordinator.proofs.Finding.{found_changed}
 use Rattle.rx_coordinator.proofs.Telling.{told_some, free_stays, own_open, own_call, own_spawn, own_arrive, own_wait}
 use Rattle.rx_coordinator.proofs.Asking.{Seated, seated}
@@ -137,7 +137,7 @@ parking c ws d = record { core = c; waiters = ws; due = d }
 abbrev pub Kept : Coordinator → Waiters → Due → ℕ → List Entry → Type 0
 Kept c ws d p es = Parks (parking c ws d) p es
 
-pub kept : (c : Coordinator) (ws : Waiters) (d : Due) (p : ℕ) (es : List Entry) → Stands c p es → AllWait (tree_of p es) ws d → Kept c ws d p es
+pub kept : (c : Coordinator) (ws : Waiters) (d : Due) (p : ℕ) (es : List Entry) → StandsAfter c p es → AllWait (tree_of p es) ws d → Kept c ws d p es
 kept c ws d p es st h = record { stands = st; all = h }
 
 -- one step more
@@ -159,13 +159,13 @@ LeavesOthers Root = ⊥
 LeavesOthers _ = Unit {0}
 
 module _ (p : ℕ) (es : List Entry) (c : Coordinator) (ws : Waiters) (d : Due) (r : Reached (tree_of p es)) (h : AllWait (tree_of p es) ws d) where
-  lands : (e : Entry) (t : TaskId) → Reached (tree_of p (es ++ e ∷ [])) → AllWait (tree_of p (es ++ e ∷ [])) ws d → Landing p (es ++ e ∷ []) t (Stands c p) → Landing p (es ++ e ∷ []) t (Kept c ws d p)
+  lands : (e : Entry) (t : TaskId) → Reached (tree_of p (es ++ e ∷ [])) → AllWait (tree_of p (es ++ e ∷ [])) ws d → Landing p (es ++ e ∷ []) t (StandsAfter c p) → Landing p (es ++ e ∷ []) t (Kept c ws d p)
   lands e t r2 h2 (inl l) =
       inl (l.0, l.1, l.2, kept c ws d p _ l.3 (step_moves p (es ++ e ∷ []) t (ArriveAct l.1.0) l.0 ws d r2 h2 l.1.1 l.2 tt))
   lands e t r2 h2 (inr l) = inr (l.0, kept c ws d p _ l.1 h2)
 
   -- each entry that the request may make leaves all who wait
-  pub asked_moving : (q : Request) (a : Answer) → LeavesOthers q → Asked p es q a (Stands c p) → Asked p es q a (Kept c ws d p)
+  pub asked_moving : (q : Request) (a : Answer) → LeavesOthers q → IsReplyTo p es q a (StandsAfter c p) → IsReplyTo p es q a (Kept c ws d p)
   asked_moving q Bad ok k = (k.0, kept c ws d p es k.1 h)
   asked_moving q Full ok k = (k.0, k.1, kept c ws d p es k.2 h)
   asked_moving q NoMemory ok k = (k.0, kept c ws d p es k.1 h)
@@ -195,7 +195,7 @@ module _ (p : ℕ) (es : List Entry) (c : Coordinator) (ws : Waiters) (d : Due) 
   asked_moving _ _ ok k = absurd k.1
 
 -- who held no scope does not wait
-pub none_held : (c : Coordinator) (p : ℕ) (es : List Entry) → Stands c p es → (t : TaskId) → ((w : Seat) → held_in (seat_at c.seats t.0) ≡ Some w → ⊥) → Awaits (tree_of p es) t → ⊥
+pub none_held : (c : Coordinator) (p : ℕ) (es : List Entry) → StandsAfter c p es → (t : TaskId) → ((w : Seat) → held_in (seat_at c.seats t.0) ≡ Some w → ⊥) → Awaits (tree_of p es) t → ⊥
 none_held c p es st t none a =
     let w = seat_of (tree_of p es) a.task in
     let row : seat_at c.seats t.0 ≡ Some w = st.seats t ∙ told_some (tree_of p es) t a.task w a.stands a.unstruck refl in
@@ -214,8 +214,8 @@ pub none_parked : (ws : Waiters) (t : TaskId) → NotAmong ws t → IsParked ws 
 none_parked ws t apart k = apart k.0 t k.1 refl
 
 -- one more waits
-pub one_waits_more : (T : Tree) (ws us : Waiters) (d : Due) (s : ScopeId) (who : Waiter) → ((n : ℕ) → waiter_at us n ≡ cond (n == s.0) (Some who) (waiter_at ws n)) → WaitsThere T s.0 who → HasToWait T s.0 who → AllWait T ws d → AllWait T us d
-one_waits_more T ws us d s who put at has h = record { there = λ n z e. each n z e (WaitsThere T) at (h.there n z); wait = λ n z e. each n z e (λ m y. IsDue d m ⊎ HasToWait T m y) (inr has) (h.wait n z) } where
+pub one_waits_more : (T : Tree) (ws us : Waiters) (d : Due) (s : ScopeId) (who : Waiter) → ((n : ℕ) → waiter_at us n ≡ cond (n == s.0) (Some who) (waiter_at ws n)) → WaiterIsThere T s.0 who → HasToWait T s.0 who → AllWait T ws d → AllWait T us d
+one_waits_more T ws us d s who put at has h = record { there = λ n z e. each n z e (WaiterIsThere T) at (h.there n z); wait = λ n z e. each n z e (λ m y. ScopeIsDue d m ⊎ HasToWait T m y) (inr has) (h.wait n z) } where
   each : (n : ℕ) (z : Waiter) → waiter_at us n ≡ Some z → (P : ℕ → Waiter → Type 0) → P s.0 who → (waiter_at ws n ≡ Some z → P n z) → P n z
   each n z e P new old =
       (elim (n == s.0) as (λ b. n == s.0 ≡ b → cond b (Some who) (waiter_at ws n) ≡ Some z → P n z) [
@@ -223,7 +223,7 @@ one_waits_more T ws us d s who put at has h = record { there = λ n z e. each n 
         | false ↦ λ i j. old j
       ]) refl (sym (put n) ∙ e)
 
-pub died_waits : (p : ℕ) (es : List Entry) (q : PlaceId) (e : Entry) (ws : Waiters) (d f : Due) → ((n : ℕ) → IsDue f n) → e ≡ DeathEntry q → AllWait (tree_of p es) ws d → AllWait (tree_of p (es ++ e ∷ [])) ws f
+pub died_waits : (p : ℕ) (es : List Entry) (q : PlaceId) (e : Entry) (ws : Waiters) (d f : Due) → ((n : ℕ) → ScopeIsDue f n) → e ≡ DeathEntry q → AllWait (tree_of p es) ws d → AllWait (tree_of p (es ++ e ∷ [])) ws f
 died_waits p es q e ws d f all is h =
     let b : Blow = record { place = q; entry = length es } in
     subst (λ (g : Entry). AllWait (tree_of p (es ++ g ∷ [])) ws f) (sym is) (subst (λ (V : Tree). AllWait V ws f) (sym (tree-push p es (DeathEntry q))) (death_waits (tree_of p es) b ws d f all h))
@@ -235,7 +235,7 @@ root_done p es lost masked thrown e ws d r is may h =
 
 module _ (p : ℕ) (es : List Entry) (c : Coordinator) (ws : Waiters) (d : Due) (h : AllWait (tree_of p es) ws d) where
   -- an answer to a death that is not `Died`
-  pub no_death_told : (q : PlaceId) (a : Answer) → (a ≡ Died → ⊥) → Asked p es (Death q) a (Stands c p) → Asked p es (Death q) a (Kept c ws d p)
+  pub no_death_told : (q : PlaceId) (a : Answer) → (a ≡ Died → ⊥) → IsReplyTo p es (Death q) a (StandsAfter c p) → IsReplyTo p es (Death q) a (Kept c ws d p)
   no_death_told q Bad out k = (k.0, kept c ws d p es k.1 h)
   no_death_told q Full out k = (k.0, k.1, kept c ws d p es k.2 h)
   no_death_told q NoMemory out k = (k.0, kept c ws d p es k.1 h)
@@ -244,7 +244,7 @@ module _ (p : ℕ) (es : List Entry) (c : Coordinator) (ws : Waiters) (d : Due) 
   no_death_told q _ out k = absurd k.1
 
   -- an answer to an end that is not `Ended`
-  pub no_end_told : (t : TaskId) (thrown : List Fault) (a : Answer) → (a ≡ Ended → ⊥) → Asked p es (End t thrown) a (Stands c p) → Asked p es (End t thrown) a (Kept c ws d p)
+  pub no_end_told : (t : TaskId) (thrown : List Fault) (a : Answer) → (a ≡ Ended → ⊥) → IsReplyTo p es (End t thrown) a (StandsAfter c p) → IsReplyTo p es (End t thrown) a (Kept c ws d p)
   no_end_told t thrown Bad out k = (k.0, kept c ws d p es k.1 h)
   no_end_told t thrown Full out k = (k.0, k.1, kept c ws d p es k.2 h)
   no_end_told t thrown NoMemory out k = (k.0, kept c ws d p es k.1 h)
@@ -253,7 +253,7 @@ module _ (p : ℕ) (es : List Entry) (c : Coordinator) (ws : Waiters) (d : Due) 
   no_end_told t thrown _ out k = absurd k.1
 
   -- an answer to a release by one who does not wait yet that is not `NotYet`
-  pub release_told : (t : TaskId) (a : Answer) → Reached (tree_of p es) → NotAmong ws t → ((place : PlaceId) → a ≡ NotYet place → ⊥) → Asked p es (Release t) a (Stands c p) → Asked p es (Release t) a (Kept c ws d p) × Puts (Some (TaskWaits t)) a ws ws
+  pub release_told : (t : TaskId) (a : Answer) → Reached (tree_of p es) → NotAmong ws t → ((place : PlaceId) → a ≡ NotYet place → ⊥) → IsReplyTo p es (Release t) a (StandsAfter c p) → IsReplyTo p es (Release t) a (Kept c ws d p) × Puts (Some (TaskWaits t)) a ws ws
   release_told t Bad r apart out k = ((k.0, kept c ws d p es k.1 h), λ n. refl)
   release_told t Full r apart out k = ((k.0, k.1, kept c ws d p es k.2 h), λ n. refl)
   release_told t NoMemory r apart out k = ((k.0, kept c ws d p es k.1 h), λ n. refl)
@@ -265,7 +265,7 @@ module _ (p : ℕ) (es : List Entry) (c : Coordinator) (ws : Waiters) (d : Due) 
   release_told t _ r apart out k = absurd k.1
 
   -- the same of the root
-  pub root_release_told : (a : Answer) → Reached (tree_of p es) → ((place : PlaceId) → a ≡ NotYet place → ⊥) → Asked p es Root a (Stands c p) → Asked p es Root a (Kept c ws d p) × Puts (Some Host) a ws ws
+  pub root_release_told : (a : Answer) → Reached (tree_of p es) → ((place : PlaceId) → a ≡ NotYet place → ⊥) → IsReplyTo p es Root a (StandsAfter c p) → IsReplyTo p es Root a (Kept c ws d p) × Puts (Some Host) a ws ws
   root_release_told Bad r out k = ((k.0, kept c ws d p es k.1 h), λ n. refl)
   root_release_told Full r out k = ((k.0, k.1, kept c ws d p es k.2 h), λ n. refl)
   root_release_told NoMemory r out k = ((k.0, kept c ws d p es k.1 h), λ n. refl)
@@ -275,7 +275,7 @@ module _ (p : ℕ) (es : List Entry) (c : Coordinator) (ws : Waiters) (d : Due) 
   root_release_told _ r out k = absurd k.1
 
   -- who has to wait is put to those who wait, or memory ran out
-  pub parked_told : (q : Request) (who : Waiter) (s : ScopeId) (place : PlaceId) (us : Waiters) (a : Answer) → waiter_of q ≡ Some who → May (tree_of p es) q → Busy (tree_of p es) q place → Stands c p es → WaitsThere (tree_of p es) s.0 who → HasToWait (tree_of p es) s.0 who → ParkedIs s who place ws a us → Asked p es q a (Kept c us d p) × Puts (Some who) a ws us
+  pub parked_told : (q : Request) (who : Waiter) (s : ScopeId) (place : PlaceId) (us : Waiters) (a : Answer) → waiter_of q ≡ Some who → May (tree_of p es) q → Busy (tree_of p es) q place → StandsAfter c p es → WaiterIsThere (tree_of p es) s.0 who → HasToWait (tree_of p es) s.0 who → ParkedIs s who place ws a us → IsReplyTo p es q a (Kept c us d p) × Puts (Some who) a ws us
   parked_told q who s place us (NotYet x) is may busy st at has k =
       ((may, subst (Busy (tree_of p es) q) (sym k.0) busy, kept c us d p es st (one_waits_more (tree_of p es) ws us d s who k.1 at has h)), (s, k.1))
   parked_told q who s place us NoMemory is may busy st at has k =
@@ -283,7 +283,7 @@ module _ (p : ℕ) (es : List Entry) (c : Coordinator) (ws : Waiters) (d : Due) 
   parked_told q who s place us _ is may busy st at has k = absurd k
 
 -- the row of a task that has to wait
-pub waits_told : (T : Tree) (t : TaskId) (w : Seat) → Reached T → seat_told T t ≡ Some w → (a : Seated T t w) → w.waits ≡ true → (place : PlaceId) → Busy T (Release t) place → WaitsThere T w.who.inner.0 (TaskWaits t) × HasToWait T w.who.inner.0 (TaskWaits t)
+pub waits_told : (T : Tree) (t : TaskId) (w : Seat) → Reached T → seat_told T t ≡ Some w → (a : Seated T t w) → w.waits ≡ true → (place : PlaceId) → Busy T (Release t) place → WaiterIsThere T w.who.inner.0 (TaskWaits t) × HasToWait T w.who.inner.0 (TaskWaits t)
 waits_told T t w r told a on place busy =
     let found : task_of T t ≡ Some busy.0 = busy.1 in
     let here : task_of T t ≡ Some a.task = a.stands in
@@ -327,7 +327,7 @@ module _ (p : ℕ) (es : List Entry) (ws : Waiters) (d : Due) (h : AllWait (tree
       let there = (h.there n (TaskWaits u) g.1).1 w at in
       g.0 (sym there.1 ∙ here.1)
 
-  pub freed_told : (us : Waiters) → ((n : ℕ) → waiter_at us n ≡ cond (n == s.0) None (waiter_at ws n)) → (o : Outcome) (z : Waiter) → who ≡ z → Asked p es (request_of z) (answer_to z o) (Stands c p) → Asked p es (request_of z) (answer_to z o) (Kept c us d p)
+  pub freed_told : (us : Waiters) → ((n : ℕ) → waiter_at us n ≡ cond (n == s.0) None (waiter_at ws n)) → (o : Outcome) (z : Waiter) → who ≡ z → IsReplyTo p es (request_of z) (answer_to z o) (StandsAfter c p) → IsReplyTo p es (request_of z) (answer_to z o) (Kept c us d p)
   freed_told us left o (TaskWaits t) is k =
       let act : Act = ReleaseAct k.1.0 o.lost o.masked o.thrown in
       let may : AllowedAct (tree_of p es) t act = subst (Allowed (tree_of p es)) k.1.1 k.2 in
@@ -353,7 +353,7 @@ module _ (p : ℕ) (es : List Entry) (ws : Waiters) (d : Due) (h : AllWait (tree
       (tt, ap (λ (n : ℕ). quiet (tree_of p es) (scope_numbered n)) zero ∙ busy.busy)
 
   -- those before it and after it
-  later : (e : Due) → ((n : ℕ) → IsDue d n → IsDue d s.0 → s.0 < n → IsDue e n) → (n : ℕ) (z : Waiter) → waiter_at ws n ≡ Some z → n ≢ s.0 → IsDue d n ⊎ HasToWait (tree_of p es) n z → IsDue e n ⊎ HasToWait (tree_of p es) n z
+  later : (e : Due) → ((n : ℕ) → ScopeIsDue d n → ScopeIsDue d s.0 → s.0 < n → ScopeIsDue e n) → (n : ℕ) (z : Waiter) → waiter_at ws n ≡ Some z → n ≢ s.0 → ScopeIsDue d n ⊎ HasToWait (tree_of p es) n z → ScopeIsDue e n ⊎ HasToWait (tree_of p es) n z
   later e past n z i apart (inr k) = inr k
   later e past n z i apart (inl due) =
       elim (cases_lt n s.0) [
@@ -361,11 +361,11 @@ module _ (p : ℕ) (es : List Entry) (ws : Waiters) (d : Due) (h : AllWait (tree
         | inr high ↦ inl (past n due next.0 (omega (arith, high, apart)))
       ]
 
-  pub waits_on : (e : Due) → ((n : ℕ) → IsDue d n → IsDue d s.0 → s.0 < n → IsDue e n) → (place : PlaceId) → Asked p es (request_of who) (NotYet place) (Stands c p) → Kept c ws e p es
+  pub waits_on : (e : Due) → ((n : ℕ) → ScopeIsDue d n → ScopeIsDue d s.0 → s.0 < n → ScopeIsDue e n) → (place : PlaceId) → IsReplyTo p es (request_of who) (NotYet place) (StandsAfter c p) → Kept c ws e p es
   waits_on e past place k = kept c ws e p es k.2 (record { there = h.there; wait = on }) where
-    on : (n : ℕ) (z : Waiter) → waiter_at ws n ≡ Some z → IsDue e n ⊎ HasToWait (tree_of p es) n z
+    on : (n : ℕ) (z : Waiter) → waiter_at ws n ≡ Some z → ScopeIsDue e n ⊎ HasToWait (tree_of p es) n z
     on n z i =
-        (elim (n == s.0) as (λ b. n == s.0 ≡ b → IsDue e n ⊎ HasToWait (tree_of p es) n z) [
+        (elim (n == s.0) as (λ b. n == s.0 ≡ b → ScopeIsDue e n ⊎ HasToWait (tree_of p es) n z) [
           | true ↦ λ w.
               let same : n ≡ s.0 = eqb-true n s.0 w in
               let at : Some who ≡ Some z = sym next.1 ∙ (ap (waiter_at ws) (sym same) ∙ i) in
@@ -374,7 +374,7 @@ module _ (p : ℕ) (es : List Entry) (ws : Waiters) (d : Due) (h : AllWait (tree
           | false ↦ λ w. later e past n z i (eqb-false n s.0 w) (h.wait n z i)
         ]) refl
 
-  pub drops : (us : Waiters) → ((n : ℕ) → waiter_at us n ≡ cond (n == s.0) None (waiter_at ws n)) → (e : Due) → ((n : ℕ) → IsDue d n → IsDue d s.0 → s.0 < n → IsDue e n) → Asked p es (request_of who) Bad (Stands c p) → Kept c us e p es
+  pub drops : (us : Waiters) → ((n : ℕ) → waiter_at us n ≡ cond (n == s.0) None (waiter_at ws n)) → (e : Due) → ((n : ℕ) → ScopeIsDue d n → ScopeIsDue d s.0 → s.0 < n → ScopeIsDue e n) → IsReplyTo p es (request_of who) Bad (StandsAfter c p) → Kept c us e p es
   drops us left e past k =
       kept c us e p es k.1 (record {
         there = λ n z i. h.there n z (gone us left n z i).1;
@@ -382,7 +382,7 @@ module _ (p : ℕ) (es : List Entry) (ws : Waiters) (d : Due) (h : AllWait (tree
       })
 
 -- no other answers to a release that is asked for again
-pub short_told : (p : ℕ) (es : List Entry) (z : Waiter) (a : Answer) (S : List Entry → Type 0) → (a ≡ Bad → ⊥) → ((place : PlaceId) → a ≡ NotYet place → ⊥) → ((o : Outcome) → a ≡ Released o → ⊥) → ((o : Outcome) → a ≡ RootDone o → ⊥) → Asked p es (request_of z) a S → S es
+pub short_told : (p : ℕ) (es : List Entry) (z : Waiter) (a : Answer) (S : List Entry → Type 0) → (a ≡ Bad → ⊥) → ((place : PlaceId) → a ≡ NotYet place → ⊥) → ((o : Outcome) → a ≡ Released o → ⊥) → ((o : Outcome) → a ≡ RootDone o → ⊥) → IsReplyTo p es (request_of z) a S → S es
 short_told p es z Bad S bad yet done root k = absurd (bad refl)
 short_told p es z Full S bad yet done root k = k.2
 short_told p es z NoMemory S bad yet done root k = k.1
@@ -393,18 +393,18 @@ short_told p es (TaskWaits t) _ S bad yet done root k = absurd k.1
 short_told p es Host _ S bad yet done root k = absurd k.1
 
 -- a release of a task is told of a task, and one of the root of the host
-pub released_is : (p : ℕ) (es : List Entry) (z : Waiter) (o : Outcome) (S : List Entry → Type 0) → Asked p es (request_of z) (Released o) S → Asked p es (request_of z) (answer_to z o) S
+pub released_is : (p : ℕ) (es : List Entry) (z : Waiter) (o : Outcome) (S : List Entry → Type 0) → IsReplyTo p es (request_of z) (Released o) S → IsReplyTo p es (request_of z) (answer_to z o) S
 released_is p es (TaskWaits t) o S k = k
 released_is p es Host o S k = absurd k.1
 
-pub root_is : (p : ℕ) (es : List Entry) (z : Waiter) (o : Outcome) (S : List Entry → Type 0) → Asked p es (request_of z) (RootDone o) S → Asked p es (request_of z) (answer_to z o) S
+pub root_is : (p : ℕ) (es : List Entry) (z : Waiter) (o : Outcome) (S : List Entry → Type 0) → IsReplyTo p es (request_of z) (RootDone o) S → IsReplyTo p es (request_of z) (answer_to z o) S
 root_is p es (TaskWaits t) o S k = absurd k.1
 root_is p es Host o S k = k
 
 -- The end of a task.
 
 -- what a row tells of the scope that its task hangs under
-pub under_is : (c : Coordinator) (p : ℕ) (es : List Entry) → Stands c p es → (t : TaskId) (act : Act) (may : AllowedAct (tree_of p es) t act) → scope_in (seat_at c.seats t.0) ≡ may.task.under
+pub under_is : (c : Coordinator) (p : ℕ) (es : List Entry) → StandsAfter c p es → (t : TaskId) (act : Act) (may : AllowedAct (tree_of p es) t act) → scope_in (seat_at c.seats t.0) ≡ may.task.under
 under_is c p es st t act may =
     ap scope_in (st.seats t ∙ told_some (tree_of p es) t may.task (seat_of (tree_of p es) may.task) may.stands may.unstruck refl)
 
@@ -415,13 +415,13 @@ module _ (p : ℕ) (es : List Entry) (t : TaskId) (thrown : List Fault) (e : Ent
   tree : tree_of p (es ++ e ∷ []) ≡ made_act (tree_of p es) t (EndAct thrown)
   tree = ap (λ (f : Entry). tree_of p (es ++ f ∷ [])) is ∙ tree-push p es (Step t (EndAct thrown) [])
 
-  pub leads : (c : Coordinator) → Stands c p es → on_chain (tree_of p (es ++ e ∷ [])) the_root (scope_in (seat_at c.seats t.0)) ≡ true
+  pub leads : (c : Coordinator) → StandsAfter c p es → on_chain (tree_of p (es ++ e ∷ [])) the_root (scope_in (seat_at c.seats t.0)) ≡ true
   leads c st =
       subst (λ (V : Tree). on_chain V the_root (scope_in (seat_at c.seats t.0)) ≡ true) (sym tree)
       (subst (λ (s : ScopeId). on_chain (made_act (tree_of p es) t (EndAct thrown)) the_root s ≡ true) (sym (under_is c p es st t (EndAct thrown) ends))
       (way_stays (tree_of p es) t thrown ends.task r ends ends.stands))
 
-  pub end_told : (c : Coordinator) → Stands c p es → (ws : Waiters) (d f : Due) → AllWait (tree_of p es) ws d → ((n : ℕ) → IsDue d n → IsDue f n)
+  pub end_told : (c : Coordinator) → StandsAfter c p es → (ws : Waiters) (d f : Due) → AllWait (tree_of p es) ws d → ((n : ℕ) → ScopeIsDue d n → ScopeIsDue f n)
       → (AllThere (tree_of p (es ++ e ∷ [])) ws d → AllDue (tree_of p (es ++ e ∷ [])) ws (scope_in (seat_at c.seats t.0)) f) → AllWait (tree_of p (es ++ e ∷ [])) ws f
   end_told c st ws d f h kept due =
       let T : Tree = tree_of p es in
@@ -435,7 +435,7 @@ module _ (p : ℕ) (es : List Entry) (t : TaskId) (thrown : List Fault) (e : Ent
 -- Requests that are none of releases, ends and deaths.
 pub others_beside : (p : ℕ) (es : List Entry) (q : Request) (a : Answer) (c : Coordinator) (ws : Waiters) (d : Due) → Reached (tree_of p es) → AllWait (tree_of p es) ws d
     → ((t : TaskId) → q ≡ Release t → ⊥) → (q ≡ Root → ⊥) → ((t : TaskId) (thrown : List Fault) → q ≡ End t thrown → ⊥) → ((x : PlaceId) → q ≡ Death x → ⊥)
-    → Asked p es q a (Stands c p) → AskedBeside p es q ws a (Kept c ws d p) ws
+    → IsReplyTo p es q a (StandsAfter c p) → AskedBeside p es q ws a (Kept c ws d p) ws
 others_beside p es (Release t) a c ws d r h f g i j k = absurd (f t refl)
 others_beside p es Root a c ws d r h f g i j k = absurd (g refl)
 others_beside p es (End t thrown) a c ws d r h f g i j k = absurd (i t thrown refl)

@@ -11,14 +11,14 @@ use Rattle.rx_rules.specs.declared.tasks.Scope.{Scope}
 use Rattle.rx_rules.specs.declared.entries.Entry.{Entry}
 use Rattle.rx_rules.specs.declared.entries.Act.TheVariants.{At as Calls, Spawn, Release}
 use Rattle.rx_rules.proofs.Lookups.{number-of}
-use Rattle.rx_sound.specs.Sound.{Sound, Each}
-use Rattle.rx_sound.proofs.Changes.{each_found}
-use Rattle.rx_sound.proofs.Reached.{sound}
-use Rattle.rx_sound.proofs.Reach.{task_below, fits_of}
-use Rattle.rx_sound.proofs.Releasing.{each_none, on_meets}
-use Rattle.rx_sound.proofs.Stay.{find_filter}
-use Rattle.rx_sound.proofs.Owning.{release_pops}
-use Rattle.rx_sound.proofs.Histories.{none_yet}
+use Rattle.rx_tree_laws.specs.Sound.{Sound, Each}
+use Rattle.rx_tree_laws.proofs.Changes.{each_found}
+use Rattle.rx_tree_laws.proofs.Reached.{sound}
+use Rattle.rx_tree_laws.proofs.Reach.{task_below, fits_of}
+use Rattle.rx_tree_laws.proofs.Releasing.{each_none, on_meets}
+use Rattle.rx_tree_laws.proofs.Stay.{find_filter}
+use Rattle.rx_tree_laws.proofs.Owning.{release_pops}
+use Rattle.rx_tree_laws.proofs.Histories.{none_yet}
 use Rattle.rx_runs.proofs.Endings.{root_empties}
 use Rattle.rx_chronicle.proofs.Linking.{link, links, top, inner_top, Linked, AllLinked, none_opened, linked_from}
 use Rattle.rx_coordinator.specs.declared.seats.Seat.{Seat}

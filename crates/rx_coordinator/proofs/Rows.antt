@@ -7,7 +7,7 @@ use Rattle.rx_coordinator.specs.declared.waiters.Waiter.{Waiter}
 use Rattle.rx_coordinator.specs.declared.waiters.Waiters.{Waiters}
 use Rattle.rx_coordinator.specs.declared.parking.Parking.{Parking}
 use Rattle.rx_coordinator.specs.Stands.{May}
-use Rattle.rx_coordinator.specs.Waiters.{waiter_at, IsDue}
+use Rattle.rx_coordinator.specs.Waiters.{waiter_at, ScopeIsDue}
 use Rattle.rx_coordinator.specs.Parking.{Parks, HasToWait, PassedBy, request_of}
 use Rattle.rx_coordinator.specs.Inside.Walks.{NextDue, IsSame, IsLeft}
 use Rattle.rx_coordinator.proofs.Moves.{passed_same, passed_gone, left_other, left_none}
@@ -16,7 +16,7 @@ use Rattle.rx_coordinator.proofs.Moves.{passed_same, passed_gone, left_other, le
 abbrev Gone : Tree → Parking → Parking → ℕ → Type 0
 Gone T k l m =
     (who : Waiter) × (waiter_at k.waiters m ≡ Some who) × (May T (request_of who) → ⊥) × (waiter_at l.waiters m ≡ None)
-    × ((i : ℕ) → IsDue l.due i → m ≤ i)
+    × ((i : ℕ) → ScopeIsDue l.due i → m ≤ i)
 
 abbrev Row : Tree → Parking → Parking → ℕ → Type 0
 Row T k l m = (waiter_at l.waiters m ≡ waiter_at k.waiters m) ⊎ Gone T k l m
@@ -25,7 +25,7 @@ no-row : (x : Option Waiter) (who : Waiter) → x ≡ None → x ≡ Some who �
 no-row x who e i = cc
 
 -- nobody that is due waits
-pub none_here : (p : ℕ) (es : List Entry) (k l : Parking) → Parks l p es → ((m : ℕ) → Row (tree_of p es) k l m) → ((m : ℕ) → IsDue l.due m → waiter_at l.waiters m ≡ None)
+pub none_here : (p : ℕ) (es : List Entry) (k l : Parking) → Parks l p es → ((m : ℕ) → Row (tree_of p es) k l m) → ((m : ℕ) → ScopeIsDue l.due m → waiter_at l.waiters m ≡ None)
     → ((n : ℕ) (who : Waiter) → waiter_at l.waiters n ≡ Some who → HasToWait (tree_of p es) n who) × ((m : ℕ) → PassedBy (tree_of p es) m (waiter_at k.waiters m) (waiter_at l.waiters m))
 none_here p es k l on rows none = (held, λ m. passed m (rows m)) where
   held : (n : ℕ) (who : Waiter) → waiter_at l.waiters n ≡ Some who → HasToWait (tree_of p es) n who
@@ -69,7 +69,7 @@ short_on p es k l rows us same m = by (rows m) where
   by (inl e) = inl (same m ∙ e)
   by (inr g) = inr (passed_gone (tree_of p es) m (waiter_at k.waiters m) (waiter_at us m) g.0 g.1 g.2 (same m ∙ g.3))
 
-module _ (p : ℕ) (es : List Entry) (k l j : Parking) (rows : (m : ℕ) → Row (tree_of p es) k l m) (s : ScopeId) (who : Waiter) (next : NextDue l.waiters l.due (Some (s, who))) (later : (n : ℕ) → IsDue j.due n → s.0 ≤ n) where
+module _ (p : ℕ) (es : List Entry) (k l j : Parking) (rows : (m : ℕ) → Row (tree_of p es) k l m) (s : ScopeId) (who : Waiter) (next : NextDue l.waiters l.due (Some (s, who))) (later : (n : ℕ) → ScopeIsDue j.due n → s.0 ≤ n) where
   -- a row that did not change
   same_on : (m : ℕ) → waiter_at j.waiters m ≡ waiter_at l.waiters m → Row (tree_of p es) k l m → Row (tree_of p es) k j m
   same_on m e (inl same) = inl (e ∙ same)

@@ -10,11 +10,11 @@ use Rattle.rx_rules.specs.declared.tasks.Task.{Task}
 use Rattle.rx_rules.specs.declared.entries.Act.{Act}
 use Rattle.rx_rules.specs.declared.entries.Act.TheVariants.{Open, At as Calls, Spawn, Arrive, Wait, Release, End, Print, Census}
 use Rattle.rx_rules.proofs.Lookups.{number-of}
-use Rattle.rx_sound.proofs.Reached.{sound}
-use Rattle.rx_sound.proofs.Reach.{task_below}
-use Rattle.rx_sound.proofs.Stay.{find_filter}
-use Rattle.rx_sound.proofs.Staying.{find_unfiltered}
-use Rattle.rx_sound.proofs.Owning.{release_keeps}
+use Rattle.rx_tree_laws.proofs.Reached.{sound}
+use Rattle.rx_tree_laws.proofs.Reach.{task_below}
+use Rattle.rx_tree_laws.proofs.Stay.{find_filter}
+use Rattle.rx_tree_laws.proofs.Staying.{find_unfiltered}
+use Rattle.rx_tree_laws.proofs.Owning.{release_keeps}
 use Rattle.rx_chronicle.proofs.Linking.{find-hit, Link, link, links, top, inner_top, links_faulted}
 use Rattle.rx_ledger.proofs.Others.{ended}
 use Rattle.rx_coordinator.specs.declared.seats.Seat.{Seat}

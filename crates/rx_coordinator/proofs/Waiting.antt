@@ -10,19 +10,19 @@ use Rattle.rx_rules.specs.declared.tasks.Scope.{Scope}
 use Rattle.rx_rules.specs.declared.entries.Act.{Act}
 use Rattle.rx_rules.specs.declared.entries.Act.TheVariants.{End}
 use Rattle.rx_rules.proofs.Lookups.{number-of}
-use Rattle.rx_sound.specs.Chains.{meets, Falls}
-use Rattle.rx_sound.specs.Enabling.{able, able_in}
-use Rattle.rx_sound.proofs.Changes.{each_more}
-use Rattle.rx_sound.proofs.Chains.{met_below, met_start, meets_skips}
-use Rattle.rx_sound.proofs.Stay.{meets_faulted}
-use Rattle.rx_sound.proofs.Reach.{fits_of}
-use Rattle.rx_sound.proofs.Reached.{sound}
-use Rattle.rx_sound.proofs.Releasing.{on_meets}
-use Rattle.rx_sound.proofs.Opening.{inner_fits}
-use Rattle.rx_sound.proofs.Below.{one_opener, free_of}
-use Rattle.rx_sound.proofs.Waiting.{each_stands, waiter_owns}
-use Rattle.rx_sound.proofs.Enabling.{inner_is}
-use Rattle.rx_sound.proofs.Staying.{any_kept, quiet_as, others_stay}
+use Rattle.rx_tree_laws.specs.Chains.{meets, Falls}
+use Rattle.rx_tree_laws.specs.Enabling.{able, able_in}
+use Rattle.rx_tree_laws.proofs.Changes.{each_more}
+use Rattle.rx_tree_laws.proofs.Chains.{met_below, met_start, meets_skips}
+use Rattle.rx_tree_laws.proofs.Stay.{meets_faulted}
+use Rattle.rx_tree_laws.proofs.Reach.{fits_of}
+use Rattle.rx_tree_laws.proofs.Reached.{sound}
+use Rattle.rx_tree_laws.proofs.Releasing.{on_meets}
+use Rattle.rx_tree_laws.proofs.Opening.{inner_fits}
+use Rattle.rx_tree_laws.proofs.Below.{one_opener, free_of}
+use Rattle.rx_tree_laws.proofs.Waiting.{each_stands, waiter_owns}
+use Rattle.rx_tree_laws.proofs.Enabling.{inner_is}
+use Rattle.rx_tree_laws.proofs.Staying.{any_kept, quiet_as, others_stay}
 use Rattle.rx_ledger.proofs.Others.{ended}
 use Rattle.rx_coordinator.specs.declared.seats.Seat.{Seat}
 use Rattle.rx_coordinator.specs.declared.waiters.Waiter.{Waiter}
@@ -31,8 +31,8 @@ use Rattle.rx_coordinator.specs.declared.waiters.Waiters.{Waiters}
 use Rattle.rx_coordinator.specs.declared.waiters.Due.{Due}
 use Rattle.rx_coordinator.specs.Seats.{unhit}
 use Rattle.rx_coordinator.specs.Telling.{seat_told}
-use Rattle.rx_coordinator.specs.Waiters.{waiter_at, IsDue}
-use Rattle.rx_coordinator.specs.Parking.{WaitsThere, IsThere, HasToWait, AllWait, scope_numbered}
+use Rattle.rx_coordinator.specs.Waiters.{waiter_at, ScopeIsDue}
+use Rattle.rx_coordinator.specs.Parking.{WaiterIsThere, IsThere, HasToWait, AllWait, scope_numbered}
 use Rattle.rx_coordinator.specs.Inside.Walks.{Nearest, AllThere, AllDue}
 use Rattle.rx_coordinator.proofs.Telling.{Starts, others_told, dies_told}
 use Rattle.rx_coordinator.proofs.Newcomers.{root_told}
@@ -88,11 +88,11 @@ module _ (T : Tree) (r : Reached T) (t : TaskId) (act : Act) (may : AllowedAct T
   row_stays : (u : TaskId) → u.0 ≢ t.0 → u.0 < T.next_task → seat_told (made_act T t act) u ≡ seat_told T u
   row_stays u apart low = others_told T r t u apart act may (old u low)
 
-  there : (n : ℕ) (who : Waiter) → ((u : TaskId) → who ≡ TaskWaits u → u.0 ≢ t.0) → WaitsThere T n who → WaitsThere (made_act T t act) n who
+  there : (n : ℕ) (who : Waiter) → ((u : TaskId) → who ≡ TaskWaits u → u.0 ≢ t.0) → WaiterIsThere T n who → WaiterIsThere (made_act T t act) n who
   there n (TaskWaits u) apart h = (let low = h.0 in omega (arith, low, grows), λ v e. h.1 v (sym (row_stays u (apart u refl) h.0) ∙ e))
   there n Host apart h = h
 
-  waits : (n : ℕ) (who : Waiter) → ((u : TaskId) → who ≡ TaskWaits u → u.0 ≢ t.0) → WaitsThere T n who → HasToWait T n who → HasToWait (made_act T t act) n who
+  waits : (n : ℕ) (who : Waiter) → ((u : TaskId) → who ≡ TaskWaits u → u.0 ≢ t.0) → WaiterIsThere T n who → HasToWait T n who → HasToWait (made_act T t act) n who
   waits n (TaskWaits u) apart h k =
       let v = k.0.0 in
       let at : seat_told T u ≡ Some v = k.0.1 in
@@ -122,17 +122,17 @@ fewer_wait T ws us d less h =
 -- a place joins
 pub join_waits : (T : Tree) (ws : Waiters) (d : Due) → AllWait T ws d → AllWait (widened T) ws d
 join_waits T ws d h = record { there = λ n who e. at n who (h.there n who e); wait = λ n who e. on n who (h.wait n who e) } where
-  at : (n : ℕ) (who : Waiter) → WaitsThere T n who → WaitsThere (widened T) n who
+  at : (n : ℕ) (who : Waiter) → WaiterIsThere T n who → WaiterIsThere (widened T) n who
   at n (TaskWaits t) k = k
   at n Host k = k
 
-  on : (n : ℕ) (who : Waiter) → IsDue d n ⊎ HasToWait T n who → IsDue d n ⊎ HasToWait (widened T) n who
+  on : (n : ℕ) (who : Waiter) → ScopeIsDue d n ⊎ HasToWait T n who → ScopeIsDue d n ⊎ HasToWait (widened T) n who
   on n who (inl due) = inl due
   on n (TaskWaits t) (inr k) = inr k
   on n Host (inr k) = inr k
 
 -- a place dies
-pub death_waits : (T : Tree) (b : Blow) (ws : Waiters) (d e : Due) → ((n : ℕ) → IsDue e n) → AllWait T ws d → AllWait (strike b T) ws e
+pub death_waits : (T : Tree) (b : Blow) (ws : Waiters) (d e : Due) → ((n : ℕ) → ScopeIsDue e n) → AllWait T ws d → AllWait (strike b T) ws e
 death_waits T b ws d e all h = record { there = λ n who i. at n who (h.there n who i); wait = λ n who i. inl (all n) } where
   left : (o : Option Seat) (w : Seat) → unhit b.place o ≡ Some w → o ≡ Some w
   left None w i = absurd (let v : ⊥ = cc in v)
@@ -141,18 +141,18 @@ death_waits T b ws d e all h = record { there = λ n who i. at n who (h.there n 
     of true j = absurd (let v : ⊥ = cc in v)
     of false j = j
 
-  at : (n : ℕ) (who : Waiter) → WaitsThere T n who → WaitsThere (strike b T) n who
+  at : (n : ℕ) (who : Waiter) → WaiterIsThere T n who → WaiterIsThere (strike b T) n who
   at n (TaskWaits t) k = (k.0, λ w i. k.1 w (left (seat_told T t) w (sym (dies_told T b t) ∙ i)))
   at n Host k = k
 
 -- the root is released
 pub root_waits : (T : Tree) → Reached T → quiet T the_root ≡ true → (ws : Waiters) (d : Due) → AllWait T ws d → AllWait (without T the_root) ws d
 root_waits T r still ws d h = record { there = λ n who e. at n who (h.there n who e); wait = λ n who e. on n who (h.there n who e) (h.wait n who e) } where
-  at : (n : ℕ) (who : Waiter) → WaitsThere T n who → WaitsThere (without T the_root) n who
+  at : (n : ℕ) (who : Waiter) → WaiterIsThere T n who → WaiterIsThere (without T the_root) n who
   at n (TaskWaits t) k = (k.0, λ w i. k.1 w (sym (root_told T r still t) ∙ i))
   at n Host k = k
 
-  on : (n : ℕ) (who : Waiter) → WaitsThere T n who → IsDue d n ⊎ HasToWait T n who → IsDue d n ⊎ HasToWait (without T the_root) n who
+  on : (n : ℕ) (who : Waiter) → WaiterIsThere T n who → ScopeIsDue d n ⊎ HasToWait T n who → ScopeIsDue d n ⊎ HasToWait (without T the_root) n who
   on n who k (inl due) = inl due
   on n (TaskWaits t) k (inr a) = absurd (true≢false (sym still ∙ busy_root T t a.0.0 r a.0.1))
   on n Host k (inr a) = absurd (true≢false (sym still ∙ (ap (λ (m : ℕ). quiet T (scope_numbered m)) (sym k) ∙ a.1)))
@@ -254,26 +254,26 @@ all_there T t thrown r may ws d apart h =
     row : (u : TaskId) → u.0 ≢ t.0 → seat_told (made_act T t (End thrown)) u ≡ seat_told T u
     row u off = others_told T r t u off (End thrown) may tt
 
-    at : (n : ℕ) (who : Waiter) → ((u : TaskId) → who ≡ TaskWaits u → u.0 ≢ t.0) → WaitsThere T n who → WaitsThere (made_act T t (End thrown)) n who
+    at : (n : ℕ) (who : Waiter) → ((u : TaskId) → who ≡ TaskWaits u → u.0 ≢ t.0) → WaiterIsThere T n who → WaiterIsThere (made_act T t (End thrown)) n who
     at n (TaskWaits u) off k = (subst (λ (m : ℕ). u.0 < m) (sym next) k.0, λ w i. k.1 w (sym (row u (off u refl)) ∙ i))
     at n Host off k = k
 
-    on : (n : ℕ) (who : Waiter) → ((u : TaskId) → who ≡ TaskWaits u → u.0 ≢ t.0) → IsDue d n ⊎ HasToWait T n who → IsDue d n ⊎ IsThere (made_act T t (End thrown)) who
+    on : (n : ℕ) (who : Waiter) → ((u : TaskId) → who ≡ TaskWaits u → u.0 ≢ t.0) → ScopeIsDue d n ⊎ HasToWait T n who → ScopeIsDue d n ⊎ IsThere (made_act T t (End thrown)) who
     on n who off (inl due) = inl due
     on n (TaskWaits u) off (inr k) = inr (k.0.0, row u (off u refl) ∙ k.0.1)
     on n Host off (inr k) = inr tt
 
 -- after the end of a task
-pub end_waits : (T : Tree) (t : TaskId) (thrown : List Fault) → Reached T → (may : AllowedAct T t (End thrown)) → (ws : Waiters) (d e : Due) → NotAmong ws t → AllWait T ws d → ((n : ℕ) → IsDue d n → IsDue e n) → AllDue (made_act T t (End thrown)) ws may.task.under e → AllWait (made_act T t (End thrown)) ws e
+pub end_waits : (T : Tree) (t : TaskId) (thrown : List Fault) → Reached T → (may : AllowedAct T t (End thrown)) → (ws : Waiters) (d e : Due) → NotAmong ws t → AllWait T ws d → ((n : ℕ) → ScopeIsDue d n → ScopeIsDue e n) → AllDue (made_act T t (End thrown)) ws may.task.under e → AllWait (made_act T t (End thrown)) ws e
 end_waits T t thrown r may ws d e apart h kept due =
     let a = all_there T t thrown r may ws d apart h in
     record { there = a.there; wait = λ n who i. on n who i (h.wait n who i) (a.unstruck n who i) }
   where
-    on : (n : ℕ) (who : Waiter) → waiter_at ws n ≡ Some who → IsDue d n ⊎ HasToWait T n who → IsDue d n ⊎ IsThere (made_act T t (End thrown)) who → IsDue e n ⊎ HasToWait (made_act T t (End thrown)) n who
+    on : (n : ℕ) (who : Waiter) → waiter_at ws n ≡ Some who → ScopeIsDue d n ⊎ HasToWait T n who → ScopeIsDue d n ⊎ IsThere (made_act T t (End thrown)) who → ScopeIsDue e n ⊎ HasToWait (made_act T t (End thrown)) n who
     on n who i (inl b) j = inl (kept n b)
     on n who i (inr k) (inl b) = inl (kept n b)
     on n who i (inr k) (inr j) =
-        (elim (quiet (made_act T t (End thrown)) (scope_numbered n)) as (λ b. quiet (made_act T t (End thrown)) (scope_numbered n) ≡ b → IsDue e n ⊎ HasToWait (made_act T t (End thrown)) n who) [
+        (elim (quiet (made_act T t (End thrown)) (scope_numbered n)) as (λ b. quiet (made_act T t (End thrown)) (scope_numbered n) ≡ b → ScopeIsDue e n ⊎ HasToWait (made_act T t (End thrown)) n who) [
           | true ↦ λ m. inl (due n who i (on_way T t thrown r may (scope_numbered n) k.1 m) m)
           | false ↦ λ m. inr (j, m)
         ]) refl
@@ -281,7 +281,7 @@ end_waits T t thrown r may ws d e apart h kept due =
 -- Of the scopes that are quiet now only the nearest one for which someone waits can be one for which someone waits, unless that one is struck.
 
 module _ (V : Tree) (r : Reached V) (ws : Waiters) (d e : Due) (from c : ScopeId) (near : Nearest V ws from (Some c)) (all : AllThere V ws d)
-    (here : IsDue e c.0) (kept : (n : ℕ) → IsDue d n → IsDue e n) (more : (n m : ℕ) → IsDue d n → IsDue e m) where
+    (here : ScopeIsDue e c.0) (kept : (n : ℕ) → ScopeIsDue d n → ScopeIsDue e n) (more : (n m : ℕ) → ScopeIsDue d n → ScopeIsDue e m) where
   -- two tasks that wait for the same scope are one
   one_waits : (m u : TaskId) (w v : Seat) → seat_told V m ≡ Some w → w.waits ≡ true → seat_told V u ≡ Some v → v.waits ≡ true → (n : ℕ) → v.who.inner.0 ≡ n → list_any (λ k. is_scope (scope_numbered n) k && opened_by m k) V.scopes ≡ true → w.who.inner.0 ≡ n
   one_waits m u w v told waits seen stays n at a =
@@ -302,7 +302,7 @@ module _ (V : Tree) (r : Reached V) (ws : Waiters) (d e : Due) (from c : ScopeId
       (λ g own. false_from_ne_true (list_any (λ k. is_scope (scope_numbered n) k && opened_by m k) V.scopes) (λ a. apart (sym (one_waits m u w j.0 told waits j.1 row.0 n row.1 a) ∙ at)))
       (ap (λ (s : ScopeId). on_chain V (scope_numbered n) s) (scope-is w.who.inner c at) ∙ on)
 
-  by_nearest : (n : ℕ) (who : Waiter) → waiter_at ws n ≡ Some who → IsThere V who → n ≢ c.0 → on_chain V (scope_numbered n) c ≡ true → quiet V (scope_numbered n) ≡ true → (z : Waiter) → waiter_at ws c.0 ≡ Some z → IsThere V z → WaitsThere V c.0 z → IsDue e n
+  by_nearest : (n : ℕ) (who : Waiter) → waiter_at ws n ≡ Some who → IsThere V who → n ≢ c.0 → on_chain V (scope_numbered n) c ≡ true → quiet V (scope_numbered n) ≡ true → (z : Waiter) → waiter_at ws c.0 ≡ Some z → IsThere V z → WaiterIsThere V c.0 z → ScopeIsDue e n
   by_nearest n who i j apart on still (TaskWaits m) at k stays =
       let row = stays.1 k.0 k.1 in
       absurd (true≢false (sym still ∙ busy_above n who i j apart on m k.0 k.1 row.0 row.1))
@@ -313,12 +313,12 @@ module _ (V : Tree) (r : Reached V) (ws : Waiters) (d e : Due) (from c : ScopeId
 
   pub nearest_due : AllDue V ws from e
   nearest_due n who i on still =
-      (elim (n == c.0) as (λ b. n == c.0 ≡ b → IsDue e n) [
-        | true ↦ λ w. subst (λ (m : ℕ). IsDue e m) (sym (eqb-true n c.0 w)) here
+      (elim (n == c.0) as (λ b. n == c.0 ≡ b → ScopeIsDue e n) [
+        | true ↦ λ w. subst (λ (m : ℕ). ScopeIsDue e m) (sym (eqb-true n c.0 w)) here
         | false ↦ λ w. other (eqb-false n c.0 w) (all.unstruck n who i) (all.unstruck c.0 near.0.0 near.0.1)
       ]) refl
     where
-      other : n ≢ c.0 → IsDue d n ⊎ IsThere V who → IsDue d c.0 ⊎ IsThere V near.0.0 → IsDue e n
+      other : n ≢ c.0 → ScopeIsDue d n ⊎ IsThere V who → ScopeIsDue d c.0 ⊎ IsThere V near.0.0 → ScopeIsDue e n
       other apart (inl a) b = kept n a
       other apart (inr a) (inl b) = more c.0 n b
       other apart (inr a) (inr b) = by_nearest n who i a apart (near.1 n who i on) still near.0.0 near.0.1 b (all.there c.0 near.0.0 near.0.1)

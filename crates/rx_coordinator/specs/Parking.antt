@@ -18,14 +18,14 @@ use Rattle.rx_coordinator.specs.declared.parking.Parking.{Parking}
 use Rattle.rx_coordinator.specs.declared.parking.Freed.{Freed}
 use Rattle.rx_coordinator.specs.declared.parking.Freed.TheVariants.{One, NoOne, Short}
 use Rattle.rx_coordinator.specs.Telling.{seat_told}
-use Rattle.rx_coordinator.specs.Waiters.{waiter_at, IsDue}
-use Rattle.rx_coordinator.specs.Stands.{Stands, Asked, May}
+use Rattle.rx_coordinator.specs.Waiters.{waiter_at, ScopeIsDue}
+use Rattle.rx_coordinator.specs.Stands.{StandsAfter, IsReplyTo, May}
 
 -- who waits for the scope of a number has been started, and waits there in the tree, unless a death has struck it; the host waits for the
 -- root
-abbrev pub WaitsThere : Tree → ℕ → Waiter → Type 0
-WaitsThere T n (Task t) = (t.0 < T.next_task) × ((w : Seat) → seat_told T t ≡ Some w → (w.waits ≡ true) × (w.who.inner.0 ≡ n))
-WaitsThere T n Host = n ≡ 0
+abbrev pub WaiterIsThere : Tree → ℕ → Waiter → Type 0
+WaiterIsThere T n (Task t) = (t.0 < T.next_task) × ((w : Seat) → seat_told T t ≡ Some w → (w.waits ≡ true) × (w.who.inner.0 ≡ n))
+WaiterIsThere T n Host = n ≡ 0
 
 -- no death has struck it
 abbrev pub IsThere : Tree → Waiter → Type 0
@@ -42,12 +42,12 @@ HasToWait T n who = IsThere T who × (quiet T (scope_numbered n) ≡ false)
 
 -- so it is with everyone who waits, apart from scopes that are due
 pub record AllWait (T : Tree) (ws : Waiters) (due : Due) : Type 0 where
-  pub there : (n : ℕ) (who : Waiter) → waiter_at ws n ≡ Some who → WaitsThere T n who
-  pub wait : (n : ℕ) (who : Waiter) → waiter_at ws n ≡ Some who → IsDue due n ⊎ HasToWait T n who
+  pub there : (n : ℕ) (who : Waiter) → waiter_at ws n ≡ Some who → WaiterIsThere T n who
+  pub wait : (n : ℕ) (who : Waiter) → waiter_at ws n ≡ Some who → ScopeIsDue due n ⊎ HasToWait T n who
 
 -- the coordinator stands after these entries, and so do those who wait
 pub record Parks (k : Parking) (p : ℕ) (es : List Entry) : Type 0 where
-  pub stands : Stands k.core p es
+  pub stands : StandsAfter k.core p es
   pub all : AllWait (tree_of p es) k.waiters k.due
 
 -- who asks for a release
@@ -71,7 +71,7 @@ Puts (Some who) _ ws us = (n : ℕ) → waiter_at us n ≡ waiter_at ws n
 abbrev pub AskedBeside : ℕ → List Entry → Request → Waiters → Answer → (List Entry → Type 0) → Waiters → Type 0
 AskedBeside p es q ws a S us =
     (IsParked ws (waiter_of q) × (a ≡ Bad) × S es × ((n : ℕ) → waiter_at us n ≡ waiter_at ws n))
-    ⊎ ((IsParked ws (waiter_of q) → a ≡ Bad) × Asked p es q a S × Puts (waiter_of q) a ws us)
+    ⊎ ((IsParked ws (waiter_of q) → a ≡ Bad) × IsReplyTo p es q a S × Puts (waiter_of q) a ws us)
 
 -- the release for which someone waits, and its answer
 abbrev pub request_of : Waiter → Request
@@ -92,7 +92,7 @@ PassedBy T n (Some who) now =
 -- no more; those before it were passed by, and those after it wait still.
 abbrev pub FreedFrom : ℕ → List Entry → ℕ → Waiter → Outcome → Waiters → (List Entry → Type 0) → Waiters → Type 0
 FreedFrom p es n who o ws S us =
-    (waiter_at ws n ≡ Some who) × (waiter_at us n ≡ None) × Asked p es (request_of who) (answer_to who o) S
+    (waiter_at ws n ≡ Some who) × (waiter_at us n ≡ None) × IsReplyTo p es (request_of who) (answer_to who o) S
     × ((m : ℕ) → m < n → PassedBy (tree_of p es) m (waiter_at ws m) (waiter_at us m))
     × ((m : ℕ) → n < m → waiter_at us m ≡ waiter_at ws m)
 

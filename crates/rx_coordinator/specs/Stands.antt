@@ -25,7 +25,7 @@ use Rattle.rx_coordinator.specs.Telling.{seat_told}
 
 -- The coordinator stands after these entries, of which the first found p places: all are allowed, its ledger stands for the tree to which
 -- they fold, and its table has a row for exactly the unstruck tasks of the tree, each as the tree tells it. The entries are nowhere kept.
-pub record Stands (c : Coordinator) (p : ℕ) (es : List Entry) : Type 0 where
+pub record StandsAfter (c : Coordinator) (p : ℕ) (es : List Entry) : Type 0 where
   pub some : 1 ≤ p
   pub few : p ≤ 16
   pub allowed : AllAllowed 0 (opening p) es
@@ -106,11 +106,11 @@ Landing p es t S =
 -- The answer to a request after these entries, where S holds of the entries after it. `Bad` comes exactly where the request may not be
 -- made. `Full`, `NoMemory` and `NotYet` come where it may be made, and make no entry. Of a task that is sent two acts are told: its start,
 -- and that it lands.
-abbrev pub Asked : ℕ → List Entry → Request → Answer → (List Entry → Type 0) → Type 0
-Asked p es q Bad S = (May (tree_of p es) q → ⊥) × S es
-Asked p es q Full S = May (tree_of p es) q × IsUsedUp (tree_of p es) (length es) q × S es
-Asked p es q NoMemory S = May (tree_of p es) q × S es
-Asked p es q (NotYet place) S = May (tree_of p es) q × Busy (tree_of p es) q place × S es
-Asked p es (Send t to) (Sent b) S =
+abbrev pub IsReplyTo : ℕ → List Entry → Request → Answer → (List Entry → Type 0) → Type 0
+IsReplyTo p es q Bad S = (May (tree_of p es) q → ⊥) × S es
+IsReplyTo p es q Full S = May (tree_of p es) q × IsUsedUp (tree_of p es) (length es) q × S es
+IsReplyTo p es q NoMemory S = May (tree_of p es) q × S es
+IsReplyTo p es q (NotYet place) S = May (tree_of p es) q × Busy (tree_of p es) q place × S es
+IsReplyTo p es (Send t to) (Sent b) S =
     (e : Entry) × Told (tree_of p es) (Spawn t to) (Spawned b) e × Allowed (tree_of p es) e × Landing p (es ++ e ∷ []) b.child S
-Asked p es q a S = (e : Entry) × Told (tree_of p es) q a e × Allowed (tree_of p es) e × S (es ++ e ∷ [])
+IsReplyTo p es q a S = (e : Entry) × Told (tree_of p es) q a e × Allowed (tree_of p es) e × S (es ++ e ∷ [])

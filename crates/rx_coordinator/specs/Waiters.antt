@@ -12,7 +12,7 @@ abbrev pub waiter_at : Waiters → ℕ → Option Waiter
 waiter_at ws q = get nat_cmp ws.rows q
 
 -- the scope of this number is to be looked at
-abbrev pub IsDue : Due → ℕ → Type 0
-IsDue Nothing q = ⊥
-IsDue (One s) q = q ≡ s.0
-IsDue (From s) q = s.0 ≤ q
+abbrev pub ScopeIsDue : Due → ℕ → Type 0
+ScopeIsDue Nothing q = ⊥
+ScopeIsDue (One s) q = q ≡ s.0
+ScopeIsDue (From s) q = s.0 ≤ q

@@ -7,7 +7,7 @@ ghost use Rattle.rx_finish.specs.Callers.{HasRoot};
 ghost use Rattle.rx_rules.specs.Tree.{scope_of};
 ghost use Rattle.rx_rules.specs.Fold.{tree_of};
 ghost use Rattle.rx_coordinator.specs.Seats.{seat_at};
-ghost use Rattle.rx_coordinator.specs.Stands.{Stands, HasMore};
+ghost use Rattle.rx_coordinator.specs.Stands.{StandsAfter, HasMore};
 ghost use Rattle.rx_coordinator.specs.Inside.Rows.{finish_in, parent_in, scope_in, live_in, away_in, held_in};
 
 use crate::seats::{Seat, Seats};
@@ -30,7 +30,7 @@ impl Coordinator {
     /// A coordinator of so many places, before the first entry: task 0 is at place 0 under the root.
     pub fn open(alloc: Global, places: u8) -> Result<Coordinator, NoMemory>
         requires { (1 ≤ places) × (places ≤ 16) }
-        ensures { IfOk result (λ c. Stands c places []) }
+        ensures { IfOk result (λ c. StandsAfter c places []) }
     {
         let ledger = CountLedger::open(alloc, places)?;
         let mut seats = Seats::none(alloc);
@@ -60,9 +60,9 @@ impl Coordinator {
 
     /// Whether no task or no scope may be numbered any more.
     pub(crate) fn wants_numbers(&self) -> bool
-        requires { (p : ℕ) × (es : List Entry) × Stands self.now p es }
-        ensures more { (p : ℕ) (es : List Entry) → Stands self.now p es → result ≡ false → HasMore (tree_of p es) }
-        ensures none { (p : ℕ) (es : List Entry) → Stands self.now p es → result ≡ true → HasMore (tree_of p es) → ⊥ }
+        requires { (p : ℕ) × (es : List Entry) × StandsAfter self.now p es }
+        ensures more { (p : ℕ) (es : List Entry) → StandsAfter self.now p es → result ≡ false → HasMore (tree_of p es) }
+        ensures none { (p : ℕ) (es : List Entry) → StandsAfter self.now p es → result ≡ true → HasMore (tree_of p es) → ⊥ }
     {
         let most = (1 << 31) - 1;
         self.ledger.next_task() >= most || self.ledger.next_scope() >= most
@@ -70,8 +70,8 @@ impl Coordinator {
 
     /// Whether a scope that stands is of a finish.
     pub(crate) fn is_finish(&self, s: ScopeId) -> bool
-        requires { (p : ℕ) × (es : List Entry) × Stands self.now p es }
-        ensures { (p : ℕ) (es : List Entry) → Stands self.now p es → result ≡ finish_in (scope_of (tree_of p es) s) }
+        requires { (p : ℕ) × (es : List Entry) × StandsAfter self.now p es }
+        ensures { (p : ℕ) (es : List Entry) → StandsAfter self.now p es → result ≡ finish_in (scope_of (tree_of p es) s) }
     {
         match self.ledger.scope_seen(s) {
             Some(seen) => match seen.kind {
@@ -84,8 +84,8 @@ impl Coordinator {
 
     /// The parent of a scope that stands.
     pub(crate) fn parent_of(&self, s: ScopeId) -> ScopeId
-        requires { (p : ℕ) × (es : List Entry) × Stands self.now p es }
-        ensures { (p : ℕ) (es : List Entry) → Stands self.now p es → result ≡ parent_in (scope_of (tree_of p es) s) }
+        requires { (p : ℕ) × (es : List Entry) × StandsAfter self.now p es }
+        ensures { (p : ℕ) (es : List Entry) → StandsAfter self.now p es → result ≡ parent_in (scope_of (tree_of p es) s) }
     {
         match self.ledger.scope_seen(s) {
             Some(seen) => match seen.parent {
@@ -98,16 +98,16 @@ impl Coordinator {
 
     /// Whether there is such a place.
     pub(crate) fn has_place(&self, place: PlaceId) -> bool
-        requires { (p : ℕ) × (es : List Entry) × Stands self.now p es }
-        ensures { (p : ℕ) (es : List Entry) → Stands self.now p es → IsTrue result ↔ (place.0 < (tree_of p es).places) }
+        requires { (p : ℕ) × (es : List Entry) × StandsAfter self.now p es }
+        ensures { (p : ℕ) (es : List Entry) → StandsAfter self.now p es → IsTrue result ↔ (place.0 < (tree_of p es).places) }
     {
         place.0 < self.ledger.places()
     }
 
     /// Whether a place may die.
     pub(crate) fn may_die(&self, place: PlaceId) -> bool
-        requires { (p : ℕ) × (es : List Entry) × Stands self.now p es }
-        ensures { (p : ℕ) (es : List Entry) → Stands self.now p es → IsTrue result ↔ Allowed (tree_of p es) (Death place) }
+        requires { (p : ℕ) × (es : List Entry) × StandsAfter self.now p es }
+        ensures { (p : ℕ) (es : List Entry) → StandsAfter self.now p es → IsTrue result ↔ Allowed (tree_of p es) (Death place) }
     {
         if !self.has_place(place) {
             return false;
@@ -120,8 +120,8 @@ impl Coordinator {
 
     /// Whether the root stands.
     pub(crate) fn has_root(&self) -> bool
-        requires { (p : ℕ) × (es : List Entry) × Stands self.now p es }
-        ensures { (p : ℕ) (es : List Entry) → Stands self.now p es → IsTrue result ↔ HasRoot (tree_of p es) }
+        requires { (p : ℕ) × (es : List Entry) × StandsAfter self.now p es }
+        ensures { (p : ℕ) (es : List Entry) → StandsAfter self.now p es → IsTrue result ↔ HasRoot (tree_of p es) }
     {
         self.ledger.scope_seen(ScopeId(0)).is_some()
     }

@@ -1,7 +1,7 @@
 // Any request.
 ghost use Rattle.std.specs.Prelude.{ℕ, List};
 ghost use Rattle.rx_rules.specs.declared.entries.Entry.{Entry};
-ghost use Rattle.rx_coordinator.specs.Stands.{Stands, Asked};
+ghost use Rattle.rx_coordinator.specs.Stands.{StandsAfter, IsReplyTo};
 
 use crate::coordinator::Coordinator;
 use crate::requests::{Answer, Request};
@@ -9,8 +9,8 @@ use crate::requests::{Answer, Request};
 impl Coordinator {
     /// Answers a request. One that may not be made changes nothing.
     pub fn ask(&mut self, request: Request) -> Answer
-        requires { (p : ℕ) × (es : List Entry) × Stands self.old p es }
-        ensures { (p : ℕ) (es : List Entry) → Stands self.old p es → Asked p es request result (Stands self.new p) }
+        requires { (p : ℕ) × (es : List Entry) × StandsAfter self.old p es }
+        ensures { (p : ℕ) (es : List Entry) → StandsAfter self.old p es → IsReplyTo p es request result (StandsAfter self.new p) }
     {
         match request {
             Request::Open { task } => self.open_finish(task),

@@ -2,7 +2,7 @@
 ghost use Rattle.std.specs.Prelude.{ℕ, List};
 ghost use Rattle.rx_rules.specs.declared.entries.Entry.{Entry};
 ghost use Rattle.rx_coordinator.specs.declared.requests.Request.TheVariants.{Release, Death, Join, Root};
-ghost use Rattle.rx_coordinator.specs.Stands.{Stands, Asked};
+ghost use Rattle.rx_coordinator.specs.Stands.{StandsAfter, IsReplyTo};
 
 use crate::coordinator::Coordinator;
 use crate::requests::Answer;
@@ -12,8 +12,8 @@ use rx_finish::{FinishLedger, LedgerFault};
 impl Coordinator {
     /// Releases the scope at which a task waits.
     pub(crate) fn release(&mut self, task: TaskId) -> Answer
-        requires { (p : ℕ) × (es : List Entry) × Stands self.old p es }
-        ensures { (p : ℕ) (es : List Entry) → Stands self.old p es → Asked p es (Release task) result (Stands self.new p) }
+        requires { (p : ℕ) × (es : List Entry) × StandsAfter self.old p es }
+        ensures { (p : ℕ) (es : List Entry) → StandsAfter self.old p es → IsReplyTo p es (Release task) result (StandsAfter self.new p) }
     {
         let Some(mut seat) = self.held(task) else {
             return Answer::Bad;
@@ -38,8 +38,8 @@ impl Coordinator {
 
     /// Releases the root.
     pub(crate) fn release_root(&mut self) -> Answer
-        requires { (p : ℕ) × (es : List Entry) × Stands self.old p es }
-        ensures { (p : ℕ) (es : List Entry) → Stands self.old p es → Asked p es Root result (Stands self.new p) }
+        requires { (p : ℕ) × (es : List Entry) × StandsAfter self.old p es }
+        ensures { (p : ℕ) (es : List Entry) → StandsAfter self.old p es → IsReplyTo p es Root result (StandsAfter self.new p) }
     {
         if !self.has_root() {
             return Answer::Bad;
@@ -60,8 +60,8 @@ impl Coordinator {
 
     /// Lets a place die.
     pub(crate) fn die(&mut self, place: PlaceId) -> Answer
-        requires { (p : ℕ) × (es : List Entry) × Stands self.old p es }
-        ensures { (p : ℕ) (es : List Entry) → Stands self.old p es → Asked p es (Death place) result (Stands self.new p) }
+        requires { (p : ℕ) × (es : List Entry) × StandsAfter self.old p es }
+        ensures { (p : ℕ) (es : List Entry) → StandsAfter self.old p es → IsReplyTo p es (Death place) result (StandsAfter self.new p) }
     {
         if !self.may_die(place) {
             return Answer::Bad;
@@ -77,8 +77,8 @@ impl Coordinator {
 
     /// Lets the next place join.
     pub(crate) fn join(&mut self) -> Answer
-        requires { (p : ℕ) × (es : List Entry) × Stands self.old p es }
-        ensures { (p : ℕ) (es : List Entry) → Stands self.old p es → Asked p es Join result (Stands self.new p) }
+        requires { (p : ℕ) × (es : List Entry) × StandsAfter self.old p es }
+        ensures { (p : ℕ) (es : List Entry) → StandsAfter self.old p es → IsReplyTo p es Join result (StandsAfter self.new p) }
     {
         let places = self.ledger.places();
         if places >= 16 {

@@ -5,7 +5,7 @@ ghost use Rattle.rx_rules.specs.declared.entries.Entry.{Entry};
 ghost use Rattle.rx_coordinator.specs.declared.requests.Request.TheVariants.{Open, Arrive, Wait, End};
 ghost use Rattle.rx_coordinator.specs.declared.requests.Answer.TheVariants.{Landed};
 ghost use Rattle.rx_coordinator.specs.Seats.{seat_at};
-ghost use Rattle.rx_coordinator.specs.Stands.{Stands, Asked};
+ghost use Rattle.rx_coordinator.specs.Stands.{StandsAfter, IsReplyTo};
 ghost use Rattle.rx_coordinator.specs.Inside.Rows.{away_in};
 
 use crate::coordinator::Coordinator;
@@ -18,8 +18,8 @@ use rx_rules::Where;
 impl Coordinator {
     /// Opens a finish.
     pub(crate) fn open_finish(&mut self, task: TaskId) -> Answer
-        requires { (p : ℕ) × (es : List Entry) × Stands self.old p es }
-        ensures { (p : ℕ) (es : List Entry) → Stands self.old p es → Asked p es (Open task) result (Stands self.new p) }
+        requires { (p : ℕ) × (es : List Entry) × StandsAfter self.old p es }
+        ensures { (p : ℕ) (es : List Entry) → StandsAfter self.old p es → IsReplyTo p es (Open task) result (StandsAfter self.new p) }
     {
         let Some(mut seat) = self.live(task) else {
             return Answer::Bad;
@@ -45,8 +45,8 @@ impl Coordinator {
 
     /// Makes a task that travels arrive.
     pub(crate) fn arrive(&mut self, task: TaskId) -> Answer
-        requires { (p : ℕ) × (es : List Entry) × Stands self.old p es }
-        ensures { (p : ℕ) (es : List Entry) → Stands self.old p es → Asked p es (Arrive task) result (Stands self.new p) }
+        requires { (p : ℕ) × (es : List Entry) × StandsAfter self.old p es }
+        ensures { (p : ℕ) (es : List Entry) → StandsAfter self.old p es → IsReplyTo p es (Arrive task) result (StandsAfter self.new p) }
     {
         let Some(seat) = self.away(task) else {
             return Answer::Bad;
@@ -60,10 +60,10 @@ impl Coordinator {
 
     /// Lands a task that travels and whose row this is. It takes no memory. The condition is room for one more entry.
     pub(crate) fn land(&mut self, task: TaskId, seat: Seat)
-        requires stands { (p : ℕ) × (es : List Entry) × Stands self.old p es }
+        requires stands { (p : ℕ) × (es : List Entry) × StandsAfter self.old p es }
         requires away { away_in (seat_at self.old.seats task.0) ≡ Some seat }
         requires room { self.old.entries < 2 ^ 32 - 1 }
-        ensures { (p : ℕ) (es : List Entry) → Stands self.old p es → Asked p es (Arrive task) Landed (Stands self.new p) }
+        ensures { (p : ℕ) (es : List Entry) → StandsAfter self.old p es → IsReplyTo p es (Arrive task) Landed (StandsAfter self.new p) }
     {
         match self.ledger.arrive(seat.who) {
             Ok(()) => {
@@ -80,8 +80,9 @@ impl Coordinator {
 
     /// Lets a task wait at its innermost finish.
     pub(crate) fn wait(&mut self, task: TaskId, thrown: Faults) -> Answer
-        requires { (p : ℕ) × (es : List Entry) × Stands self.old p es }
-        ensures { (p : ℕ) (es : List Entry) → Stands self.old p es → Asked p es (Wait task thrown) result (Stands self.new p) }
+        requires { (p : ℕ) × (es : List Entry) × StandsAfter self.old p es }
+        ensures { (p : ℕ) (es : List Entry) → StandsAfter self.old p es
+            → IsReplyTo p es (Wait task thrown) result (StandsAfter self.new p) }
     {
         let Some(mut seat) = self.live(task) else {
             return Answer::Bad;
@@ -110,8 +111,8 @@ impl Coordinator {
 
     /// Ends a task.
     pub(crate) fn end(&mut self, task: TaskId, thrown: Faults) -> Answer
-        requires { (p : ℕ) × (es : List Entry) × Stands self.old p es }
-        ensures { (p : ℕ) (es : List Entry) → Stands self.old p es → Asked p es (End task thrown) result (Stands self.new p) }
+        requires { (p : ℕ) × (es : List Entry) × StandsAfter self.old p es }
+        ensures { (p : ℕ) (es : List Entry) → StandsAfter self.old p es → IsReplyTo p es (End task thrown) result (StandsAfter self.new p) }
     {
         let Some(seat) = self.live(task) else {
             return Answer::Bad;

@@ -7,8 +7,8 @@ ghost use Rattle.rx_coordinator.specs.declared.requests.Request.TheVariants.{Rel
 ghost use Rattle.rx_coordinator.specs.declared.waiters.Waiter.TheVariants.{Root as Host};
 ghost use Rattle.rx_coordinator.specs.declared.parking.Retried.TheVariants.{Passed};
 ghost use Rattle.rx_coordinator.specs.Telling.{seat_told};
-ghost use Rattle.rx_coordinator.specs.Stands.{Stands, Asked};
-ghost use Rattle.rx_coordinator.specs.Waiters.{waiter_at, IsDue};
+ghost use Rattle.rx_coordinator.specs.Stands.{StandsAfter, IsReplyTo};
+ghost use Rattle.rx_coordinator.specs.Waiters.{waiter_at, ScopeIsDue};
 ghost use Rattle.rx_coordinator.specs.Parking.{Parks, AskedBeside, FreedIs, request_of};
 ghost use Rattle.rx_coordinator.specs.Inside.Walks.{Nearest, AllThere, AllDue, NextDue, RetriedIs, ParkedIs};
 
@@ -175,10 +175,10 @@ impl Parking {
 
     /// Of the scopes from this one along parents, the first for which someone waits is due.
     fn wake(&mut self, from: ScopeId)
-        requires { (p : ℕ) × (es : List Entry) × Stands self.old.core p es × (on_chain (tree_of p es) the_root from ≡ true) }
+        requires { (p : ℕ) × (es : List Entry) × StandsAfter self.old.core p es × (on_chain (tree_of p es) the_root from ≡ true) }
         ensures same { self.new ≡ record self.old { due = self.new.due } }
-        ensures kept { (n : ℕ) → IsDue self.old.due n → IsDue self.new.due n }
-        ensures due { (p : ℕ) (es : List Entry) → Stands self.old.core p es → on_chain (tree_of p es) the_root from ≡ true
+        ensures kept { (n : ℕ) → ScopeIsDue self.old.due n → ScopeIsDue self.new.due n }
+        ensures due { (p : ℕ) (es : List Entry) → StandsAfter self.old.core p es → on_chain (tree_of p es) the_root from ≡ true
             → AllThere (tree_of p es) self.old.waiters self.old.due → AllDue (tree_of p es) self.old.waiters from self.new.due }
     {
         if let Some(scope) = self.nearest(from) {
@@ -188,8 +188,8 @@ impl Parking {
 
     /// Of the scopes from this one along parents, the first for which someone waits.
     fn nearest(&self, from: ScopeId) -> Option<ScopeId>
-        requires { (p : ℕ) × (es : List Entry) × Stands self.now.core p es × (on_chain (tree_of p es) the_root from ≡ true) }
-        ensures { (p : ℕ) (es : List Entry) → Stands self.now.core p es → on_chain (tree_of p es) the_root from ≡ true
+        requires { (p : ℕ) × (es : List Entry) × StandsAfter self.now.core p es × (on_chain (tree_of p es) the_root from ≡ true) }
+        ensures { (p : ℕ) (es : List Entry) → StandsAfter self.now.core p es → on_chain (tree_of p es) the_root from ≡ true
             → Nearest (tree_of p es) self.now.waiters from result }
     {
         let mut scope = from;
@@ -245,7 +245,7 @@ impl Parking {
     fn retry(&mut self, scope: ScopeId, waiter: Waiter) -> Retried
         requires parks { (p : ℕ) × (es : List Entry) × Parks self.old p es }
         requires next { NextDue self.old.waiters self.old.due (Some (scope, waiter)) }
-        ensures later { result ≡ Passed → (n : ℕ) → IsDue self.new.due n → scope.0 ≤ n }
+        ensures later { result ≡ Passed → (n : ℕ) → ScopeIsDue self.new.due n → scope.0 ≤ n }
         ensures parks { (p : ℕ) (es : List Entry) → Parks self.old p es
             → RetriedIs p es scope.0 waiter result self.old.waiters (Parks self.new p) self.new.waiters }
     {
@@ -273,9 +273,9 @@ impl Parking {
 
     /// Asks for a release that waits.
     fn ask_again(&mut self, waiter: Waiter) -> Answer
-        requires { (p : ℕ) × (es : List Entry) × Stands self.old.core p es }
+        requires { (p : ℕ) × (es : List Entry) × StandsAfter self.old.core p es }
         ensures same { self.new ≡ record self.old { core = self.new.core } }
-        ensures asked { (p : ℕ) (es : List Entry) → Stands self.old.core p es → Asked p es (request_of waiter) result (Stands self.new.core p) }
+        ensures asked { (p : ℕ) (es : List Entry) → StandsAfter self.old.core p es → IsReplyTo p es (request_of waiter) result (StandsAfter self.new.core p) }
     {
         match waiter {
             Waiter::Task(task) => self.core.release(task),

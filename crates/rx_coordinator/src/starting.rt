@@ -2,7 +2,7 @@
 ghost use Rattle.std.specs.Prelude.{◌<◌, ◌≤◌, ◌-◌, ◌^◌, ℕ, List};
 ghost use Rattle.rx_rules.specs.declared.entries.Entry.{Entry};
 ghost use Rattle.rx_coordinator.specs.declared.requests.Request.TheVariants.{At, Spawn, Send};
-ghost use Rattle.rx_coordinator.specs.Stands.{Stands, Asked, Landing};
+ghost use Rattle.rx_coordinator.specs.Stands.{StandsAfter, IsReplyTo, Landing};
 
 use crate::coordinator::Coordinator;
 use crate::requests::Answer;
@@ -12,8 +12,8 @@ use rx_finish::{FinishLedger, LedgerFault, place_of};
 impl Coordinator {
     /// Starts a callee, for which the task waits.
     pub(crate) fn call(&mut self, task: TaskId, to: PlaceId) -> Answer
-        requires { (p : ℕ) × (es : List Entry) × Stands self.old p es }
-        ensures { (p : ℕ) (es : List Entry) → Stands self.old p es → Asked p es (At task to) result (Stands self.new p) }
+        requires { (p : ℕ) × (es : List Entry) × StandsAfter self.old p es }
+        ensures { (p : ℕ) (es : List Entry) → StandsAfter self.old p es → IsReplyTo p es (At task to) result (StandsAfter self.new p) }
     {
         let Some(mut seat) = self.live(task) else {
             return Answer::Bad;
@@ -51,8 +51,8 @@ impl Coordinator {
 
     /// Starts a task.
     pub(crate) fn spawn(&mut self, task: TaskId, to: PlaceId) -> Answer
-        requires { (p : ℕ) × (es : List Entry) × Stands self.old p es }
-        ensures { (p : ℕ) (es : List Entry) → Stands self.old p es → Asked p es (Spawn task to) result (Stands self.new p) }
+        requires { (p : ℕ) × (es : List Entry) × StandsAfter self.old p es }
+        ensures { (p : ℕ) (es : List Entry) → StandsAfter self.old p es → IsReplyTo p es (Spawn task to) result (StandsAfter self.new p) }
     {
         let Some(seat) = self.live(task) else {
             return Answer::Bad;
@@ -87,8 +87,8 @@ impl Coordinator {
 
     /// Starts a task, and lands it where it travels.
     pub(crate) fn send(&mut self, task: TaskId, to: PlaceId) -> Answer
-        requires { (p : ℕ) × (es : List Entry) × Stands self.old p es }
-        ensures { (p : ℕ) (es : List Entry) → Stands self.old p es → Asked p es (Send task to) result (Stands self.new p) }
+        requires { (p : ℕ) × (es : List Entry) × StandsAfter self.old p es }
+        ensures { (p : ℕ) (es : List Entry) → StandsAfter self.old p es → IsReplyTo p es (Send task to) result (StandsAfter self.new p) }
     {
         if self.entries >= u32::MAX - 1 {
             return self.refuse_start(task, to);
@@ -107,9 +107,9 @@ impl Coordinator {
 
     /// The answer to a request to start a task for which there are no numbers left.
     fn refuse_start(&self, task: TaskId, to: PlaceId) -> Answer
-        requires stands { (p : ℕ) × (es : List Entry) × Stands self.now p es }
+        requires stands { (p : ℕ) × (es : List Entry) × StandsAfter self.now p es }
         requires full { 2 ^ 32 - 2 ≤ self.now.entries }
-        ensures { (p : ℕ) (es : List Entry) → Stands self.now p es → Asked p es (Send task to) result (Stands self.now p) }
+        ensures { (p : ℕ) (es : List Entry) → StandsAfter self.now p es → IsReplyTo p es (Send task to) result (StandsAfter self.now p) }
     {
         let Some(_seat) = self.live(task) else {
             return Answer::Bad;
@@ -122,9 +122,9 @@ impl Coordinator {
 
     /// Lands a task that has just started, where it travels. The condition is room for one more entry.
     fn land_child(&mut self, child: TaskId)
-        requires stands { (p : ℕ) × (es : List Entry) × Stands self.old p es }
+        requires stands { (p : ℕ) × (es : List Entry) × StandsAfter self.old p es }
         requires room { self.old.entries < 2 ^ 32 - 1 }
-        ensures { (p : ℕ) (es : List Entry) → Stands self.old p es → Landing p es child (Stands self.new p) }
+        ensures { (p : ℕ) (es : List Entry) → StandsAfter self.old p es → Landing p es child (StandsAfter self.new p) }
     {
         if let Some(seat) = self.away(child) {
             self.land(child, seat);

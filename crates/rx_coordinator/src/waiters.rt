@@ -1,7 +1,7 @@
 // Who waits for the release of which scope, and of which scopes that may be possible.
 ghost use Rattle.std.specs.Prelude.{◌≡◌, ◌==◌, ◌≤◌, ◌<◌, ◌↔◌, ℕ, cond, OnOk, OnErr, IsTrue, IfSome, IfNone, Some, None, is_some};
 ghost use Rattle.rx_coordinator.specs.declared.waiters.Waiter.TheVariants.{Task, Root};
-ghost use Rattle.rx_coordinator.specs.Waiters.{waiter_at, IsDue};
+ghost use Rattle.rx_coordinator.specs.Waiters.{waiter_at, ScopeIsDue};
 
 use rx_base::{NoMemory, ScopeId, TaskId};
 use std::alloc::Global;
@@ -106,9 +106,9 @@ pub enum Due {
 impl Due {
     /// One scope more.
     pub fn with(self, scope: ScopeId) -> Due
-        ensures here { IsDue result scope.0 }
-        ensures others { (q : ℕ) → IsDue self q → IsDue result q }
-        ensures more { (q n : ℕ) → IsDue self q → IsDue result n }
+        ensures here { ScopeIsDue result scope.0 }
+        ensures others { (q : ℕ) → ScopeIsDue self q → ScopeIsDue result q }
+        ensures more { (q n : ℕ) → ScopeIsDue self q → ScopeIsDue result n }
     {
         match self {
             Due::Nothing => Due::One(scope),
@@ -118,8 +118,8 @@ impl Due {
 
     /// Without this scope and those before it.
     pub fn past(self, scope: ScopeId) -> Due
-        ensures kept { (n : ℕ) → IsDue self n → IsDue self scope.0 → scope.0 < n → IsDue result n }
-        ensures later { (n : ℕ) → IsDue result n → scope.0 ≤ n }
+        ensures kept { (n : ℕ) → ScopeIsDue self n → ScopeIsDue self scope.0 → scope.0 < n → ScopeIsDue result n }
+        ensures later { (n : ℕ) → ScopeIsDue result n → scope.0 ≤ n }
     {
         match self {
             Due::From(_) => Due::From(ScopeId(scope.0.saturating_add(1))),

@@ -2,14 +2,14 @@
 use Rattle.std.proofs.Common.{◌≡◌, ℕ, true, ◌==◌, Option, Some, None, is_some, option_map, IfSome, refl, sym, ap, ◌∙◌}
 use Rattle.std.specs.List.{find}
 use Rattle.std.proofs.lemmas.Bool.{eq-eqb, or_left, or_right}
-use Rattle.rx_sound.proofs.Parents.{based, parent_rooted}
+use Rattle.rx_tree_laws.proofs.Parents.{based, parent_rooted}
 use Rattle.rx_rules.proofs.Common.{ScopeId, Tree, chain_in, the_root, has_number}
 use Rattle.rx_rules.specs.declared.tasks.Scope.{Scope}
 use Rattle.rx_rules.specs.Counts.{adopter}
-use Rattle.rx_sound.specs.Chains.{meets}
-use Rattle.rx_sound.specs.Sound.{Sound}
-use Rattle.rx_sound.proofs.Changes.{each_found}
-use Rattle.rx_sound.proofs.Reached.{sound}
+use Rattle.rx_tree_laws.specs.Chains.{meets}
+use Rattle.rx_tree_laws.specs.Sound.{Sound}
+use Rattle.rx_tree_laws.proofs.Changes.{each_found}
+use Rattle.rx_tree_laws.proofs.Reached.{sound}
 use Rattle.rx_counts.specs.declared.ledger.CountLedger.{CountLedger}
 use Rattle.rx_counts.specs.Keeping.{stands_home, keeper}
 use Rattle.rx_counts.specs.Stands.{StandsFor, HasScope}

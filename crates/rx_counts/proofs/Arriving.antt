@@ -9,9 +9,9 @@ use Rattle.rx_rules.specs.declared.tasks.Where.TheVariants.{At, Travel}
 use Rattle.rx_rules.specs.declared.tasks.Task.{Task}
 use Rattle.rx_rules.specs.declared.tasks.Scope.{Scope}
 use Rattle.rx_rules.specs.declared.entries.Act.TheVariants.{Arrive}
-use Rattle.rx_sound.specs.Sound.{Sound, Inside}
-use Rattle.rx_sound.proofs.Reached.{sound}
-use Rattle.rx_sound.proofs.Stay.{fall_filter}
+use Rattle.rx_tree_laws.specs.Sound.{Sound, Inside}
+use Rattle.rx_tree_laws.proofs.Reached.{sound}
+use Rattle.rx_tree_laws.proofs.Stay.{fall_filter}
 use Rattle.rx_finish.specs.declared.ledger.Caller.{Caller}
 use Rattle.rx_finish.specs.Callers.{MayAskArrive, Travels, does_travel}
 use Rattle.rx_finish.specs.Calls.{ArriveReply, landing}
@@ -27,7 +27,7 @@ use Rattle.rx_counts.specs.Inside.Totalling.{lands}
 use Rattle.rx_counts.proofs.Totalling.{AreOf, are, totals_are, same_tasks, one_lands}
 use Rattle.rx_counts.proofs.Slots.{inside_cells, slot_below}
 use Rattle.rx_counts.proofs.HandOver.{keeper_keeps}
-use Rattle.rx_sound.specs.Chains.{Falls}
+use Rattle.rx_tree_laws.specs.Chains.{Falls}
 
 -- Each condition of a change of a cell.
 

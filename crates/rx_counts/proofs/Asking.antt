@@ -5,7 +5,7 @@ use Rattle.std.specs.Global.{Box}
 use Rattle.std.proofs.lemmas.Bool.{true≢false, cases_lt}
 use Rattle.std.proofs.lemmas.List.{get_or_past}
 use Rattle.std.proofs.lemmas.List.Sums.{count_by-le-length}
-use Rattle.rx_sound.proofs.Parents.{met_found}
+use Rattle.rx_tree_laws.proofs.Parents.{met_found}
 use Rattle.rx_finish.proofs.Gone.{blow_known}
 use Rattle.rx_rules.proofs.Common.{PlaceId, ScopeId, Tree, the_root, has_number}
 use Rattle.rx_rules.specs.declared.tasks.Where.{Where}
@@ -13,11 +13,11 @@ use Rattle.rx_rules.specs.declared.tasks.Where.TheVariants.{At, Travel}
 use Rattle.rx_rules.specs.declared.tasks.Blow.{Blow}
 use Rattle.rx_rules.specs.declared.tasks.Task.{Task}
 use Rattle.rx_rules.specs.declared.tasks.Scope.{Scope}
-use Rattle.rx_sound.specs.Blows.{blow_at}
-use Rattle.rx_sound.specs.Chains.{meets}
-use Rattle.rx_sound.specs.Sound.{Sound, TasksFall, Inside}
-use Rattle.rx_sound.proofs.Reach.{fits_of}
-use Rattle.rx_sound.proofs.Reached.{sound}
+use Rattle.rx_tree_laws.specs.Blows.{blow_at}
+use Rattle.rx_tree_laws.specs.Chains.{meets}
+use Rattle.rx_tree_laws.specs.Sound.{Sound, TasksFall, Inside}
+use Rattle.rx_tree_laws.proofs.Reach.{fits_of}
+use Rattle.rx_tree_laws.proofs.Reached.{sound}
 use Rattle.rx_finish.specs.declared.ledger.Caller.{Caller}
 use Rattle.rx_finish.specs.Callers.{MayAsk}
 use Rattle.rx_finish.specs.declared.ledger.LedgerFault.{LedgerFault}

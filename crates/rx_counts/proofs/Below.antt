@@ -7,8 +7,8 @@ use Rattle.rx_rules.proofs.Common.{TaskId, ScopeId, is_task, is_scope, wants, op
 use Rattle.rx_rules.specs.declared.tasks.Where.TheVariants.{At}
 use Rattle.rx_rules.specs.declared.tasks.Task.{Task}
 use Rattle.rx_rules.specs.declared.tasks.Scope.{Scope}
-use Rattle.rx_sound.specs.Chains.{meets, Falls, HasOpener, Opened}
-use Rattle.rx_sound.proofs.Chains.{met_below, met_start, meets_skips}
+use Rattle.rx_tree_laws.specs.Chains.{meets, Falls, HasOpener, Opened}
+use Rattle.rx_tree_laws.proofs.Chains.{met_below, met_start, meets_skips}
 use Rattle.rx_counts.specs.Keeping.{keeper, is_number}
 
 -- a keeper below s on a chain that has s, with its opener

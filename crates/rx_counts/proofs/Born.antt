@@ -2,22 +2,22 @@
 use Rattle.std.proofs.Common.{◌≡◌, ℕ, ◌<◌, ◌+◌, Bool, true, false, List, [], ◌∷◌, Option, Some, None, is_none, option_map, slice_index_or, IfSome, Ok, length, refl, sym, ap, ◌∙◌, subst, arith}
 use Rattle.std.specs.List.{find}
 use Rattle.std.proofs.lemmas.Bool.{eq-eqb}
-use Rattle.rx_sound.proofs.Parents.{met_found}
+use Rattle.rx_tree_laws.proofs.Parents.{met_found}
 use Rattle.rx_rules.proofs.Common.{PlaceId, ScopeId, Tree, the_root, governing_in, chain_in, place_number, home_for, made_act, acts, has_number}
-use Rattle.rx_base.proofs.SameIds.{scope-is}
 use Rattle.rx_rules.specs.declared.tasks.Kind.TheVariants.{Finish}
 use Rattle.rx_rules.specs.declared.tasks.Where.{Where}
 use Rattle.rx_rules.specs.declared.tasks.Where.TheVariants.{At}
 use Rattle.rx_rules.specs.declared.tasks.Task.{Task}
 use Rattle.rx_rules.specs.declared.tasks.Scope.{Scope}
 use Rattle.rx_rules.specs.declared.entries.Act.TheVariants.{Open}
-use Rattle.rx_sound.specs.Blows.{death_blow, blow_at}
-use Rattle.rx_sound.specs.Chains.{meets, Falls}
-use Rattle.rx_sound.specs.Sound.{Sound, TaskFits, Each}
-use Rattle.rx_sound.proofs.Changes.{each_more}
-use Rattle.rx_sound.proofs.Chains.{met_start}
-use Rattle.rx_sound.proofs.Opening.{inner_fits}
-use Rattle.rx_sound.proofs.Reached.{sound}
+use Rattle.rx_base.proofs.SameIds.{scope-is}
+use Rattle.rx_tree_laws.specs.Blows.{death_blow, blow_at}
+use Rattle.rx_tree_laws.specs.Chains.{meets, Falls}
+use Rattle.rx_tree_laws.specs.Sound.{Sound, TaskFits, Each}
+use Rattle.rx_tree_laws.proofs.Changes.{each_more}
+use Rattle.rx_tree_laws.proofs.Chains.{met_start}
+use Rattle.rx_tree_laws.proofs.Opening.{inner_fits}
+use Rattle.rx_tree_laws.proofs.Reached.{sound}
 use Rattle.rx_finish.specs.declared.ledger.Caller.{Caller}
 use Rattle.rx_finish.specs.Callers.{MayAskMoving, IsMoving}
 use Rattle.rx_finish.specs.Calls.{OpenReply}

@@ -8,10 +8,10 @@ use Rattle.rx_rules.specs.declared.tasks.Where.{Where}
 use Rattle.rx_rules.specs.declared.tasks.Task.{Task}
 use Rattle.rx_rules.specs.declared.tasks.Scope.{Scope}
 use Rattle.rx_rules.specs.declared.entries.Act.TheVariants.{At as Calls}
-use Rattle.rx_sound.specs.Blows.{death_blow, blow_at}
-use Rattle.rx_sound.specs.Chains.{Falls}
-use Rattle.rx_sound.specs.Sound.{Sound, Each, Inside}
-use Rattle.rx_sound.proofs.Reached.{sound}
+use Rattle.rx_tree_laws.specs.Blows.{death_blow, blow_at}
+use Rattle.rx_tree_laws.specs.Chains.{Falls}
+use Rattle.rx_tree_laws.specs.Sound.{Sound, Each, Inside}
+use Rattle.rx_tree_laws.proofs.Reached.{sound}
 use Rattle.rx_finish.specs.declared.ledger.Caller.{Caller}
 use Rattle.rx_finish.specs.Callers.{MayAskTo, IsMoving}
 use Rattle.rx_finish.specs.Calls.{CallReply}

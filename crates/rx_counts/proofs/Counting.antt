@@ -4,7 +4,7 @@ use Rattle.std.specs.List.{find, list_any}
 use Rattle.std.proofs.lemmas.Bool.{lt-ltb}
 use Rattle.std.proofs.lemmas.List.Sums.{sum_by-cons}
 use Rattle.rx_rules.proofs.Common.{change_first}
-use Rattle.rx_sound.specs.Sound.{Each}
+use Rattle.rx_tree_laws.specs.Sound.{Each}
 
 -- one or none
 abbrev pub one : Bool → ℕ

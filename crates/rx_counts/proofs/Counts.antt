@@ -1,15 +1,15 @@
 -- The records tell the counts of the rules.
 use Rattle.std.proofs.Common.{◌≡◌, ℕ, ◌<◌, min, Bool, true, false, cond, ◌&&◌, ◌==◌, not, Option, Some, None, is_some, is_none, option_map, IfSome, refl, sym, ap, ◌∙◌, subst}
 use Rattle.std.specs.List.{find, list_any}
-use Rattle.rx_sound.proofs.Releasing.{each_all}
-use Rattle.rx_sound.proofs.Staying.{any_same}
+use Rattle.rx_tree_laws.proofs.Releasing.{each_all}
+use Rattle.rx_tree_laws.proofs.Staying.{any_same}
 use Rattle.rx_rules.proofs.Common.{has_bit, members, all_places, PlaceId, ScopeId, Tree, chain_in, death_of, was_lost_at, has_number}
 use Rattle.rx_rules.specs.declared.tasks.Where.{Where}
 use Rattle.rx_rules.specs.declared.tasks.Where.TheVariants.{At, Travel}
 use Rattle.rx_rules.specs.declared.tasks.Task.{Task}
 use Rattle.rx_rules.specs.declared.tasks.Scope.{Scope}
 use Rattle.rx_rules.specs.Counts.{CountsOf, CountsAt, is_adopted, counts_at, is_there, goes, live_count, transit_count, lost_at, masks_at, masked_count}
-use Rattle.rx_sound.proofs.Changes.{each_more}
+use Rattle.rx_tree_laws.proofs.Changes.{each_more}
 use Rattle.rx_counts.specs.declared.record.Record.{Record}
 use Rattle.rx_counts.specs.declared.ledger.CountLedger.{CountLedger}
 use Rattle.rx_counts.specs.Keeping.{stands_home, keeper, is_number, kept_at, same_where, count_of, is_orphan, faults_in, masked_of}

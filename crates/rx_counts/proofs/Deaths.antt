@@ -5,15 +5,15 @@ use Rattle.std.specs.Global.{Box}
 use Rattle.std.proofs.lemmas.Bool.{eqb-true, eqb-false, lt-ltb, le-ltb}
 use Rattle.std.proofs.lemmas.List.{get_or-set_same, get_or-set_other}
 use Rattle.std.proofs.Math.Bool.{and-false, and-true}
-use Rattle.rx_sound.proofs.Parents.{based}
+use Rattle.rx_tree_laws.proofs.Parents.{based}
 use Rattle.rx_rules.proofs.Common.{PlaceId, Tree, is_scope, the_root, hit, strike, Reached, dies as place_dies, has_number}
 use Rattle.rx_rules.specs.declared.tasks.Blow.{Blow}
 use Rattle.rx_rules.specs.declared.tasks.Task.{Task}
 use Rattle.rx_rules.specs.declared.tasks.Scope.{Scope}
-use Rattle.rx_sound.specs.Sound.{Each, Sound}
-use Rattle.rx_sound.proofs.Changes.{each_found}
-use Rattle.rx_sound.proofs.Releasing.{each_below}
-use Rattle.rx_sound.proofs.Reached.{sound}
+use Rattle.rx_tree_laws.specs.Sound.{Each, Sound}
+use Rattle.rx_tree_laws.proofs.Changes.{each_found}
+use Rattle.rx_tree_laws.proofs.Releasing.{each_below}
+use Rattle.rx_tree_laws.proofs.Reached.{sound}
 use Rattle.rx_finish.specs.Callers.{MayStrike}
 use Rattle.rx_counts.specs.declared.record.Record.{Record}
 use Rattle.rx_counts.specs.declared.ledger.CountLedger.{CountLedger}

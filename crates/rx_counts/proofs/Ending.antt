@@ -8,9 +8,9 @@ use Rattle.rx_rules.specs.declared.tasks.Where.{Where}
 use Rattle.rx_rules.specs.declared.tasks.Scope.{Scope}
 use Rattle.rx_rules.specs.declared.tasks.Task.{Task}
 use Rattle.rx_rules.specs.declared.entries.Act.TheVariants.{End}
-use Rattle.rx_sound.specs.Sound.{Sound}
-use Rattle.rx_sound.proofs.Reached.{sound}
-use Rattle.rx_sound.proofs.Stay.{faulted}
+use Rattle.rx_tree_laws.specs.Sound.{Sound}
+use Rattle.rx_tree_laws.proofs.Reached.{sound}
+use Rattle.rx_tree_laws.proofs.Stay.{faulted}
 use Rattle.rx_finish.specs.declared.ledger.Caller.{Caller}
 use Rattle.rx_finish.specs.Callers.{MayAskEnd, IsBare, does_travel}
 use Rattle.rx_finish.specs.Calls.{EndReply}

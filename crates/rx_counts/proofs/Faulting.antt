@@ -3,12 +3,12 @@ use Rattle.std.proofs.Common.{◌≡◌, ℕ, Bool, true, false, cond, ◌&&◌,
 use Rattle.std.specs.List.{find}
 use Rattle.std.specs.Global.{Box}
 use Rattle.std.proofs.lemmas.Bool.{eqb-true, ne_eqb, cases_eq}
-use Rattle.rx_sound.proofs.Releasing.{each_all}
-use Rattle.rx_sound.proofs.Staying.{any_same}
+use Rattle.rx_tree_laws.proofs.Releasing.{each_all}
+use Rattle.rx_tree_laws.proofs.Staying.{any_same}
 use Rattle.rx_rules.proofs.Common.{Fault, ScopeId, is_scope, change_first, was_lost_at, has_number}
 use Rattle.rx_rules.specs.declared.tasks.Task.{Task}
 use Rattle.rx_rules.specs.declared.tasks.Scope.{Scope}
-use Rattle.rx_sound.proofs.Stay.{faulted}
+use Rattle.rx_tree_laws.proofs.Stay.{faulted}
 use Rattle.rx_counts.specs.declared.record.Sums.{Sums}
 use Rattle.rx_counts.specs.declared.record.Record.{Record}
 use Rattle.rx_counts.specs.Keeping.{keeper, finishes, is_number, kept_at, same_where, is_orphan, held}

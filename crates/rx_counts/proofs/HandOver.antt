@@ -4,12 +4,12 @@ use Rattle.std.specs.List.{find}
 use Rattle.std.proofs.lemmas.Bool.{eqb-true, eq-eqb, ne_eqb, true≢false}
 use Rattle.rx_rules.proofs.Common.{has_number, ScopeId, is_scope, wants}
 use Rattle.std.proofs.Math.Bool.{and-false, and-true}
-use Rattle.rx_sound.proofs.Releasing.{each_all}
+use Rattle.rx_tree_laws.proofs.Releasing.{each_all}
 use Rattle.rx_rules.specs.declared.tasks.Task.{Task}
 use Rattle.rx_rules.specs.declared.tasks.Scope.{Scope}
-use Rattle.rx_sound.specs.Chains.{Falls}
+use Rattle.rx_tree_laws.specs.Chains.{Falls}
 use Rattle.rx_counts.specs.Keeping.{keeper, is_number, kept_at}
-use Rattle.rx_sound.specs.Sound.{Each}
+use Rattle.rx_tree_laws.specs.Sound.{Each}
 use Rattle.rx_counts.proofs.Counting.{one, count_split, count_none, count_same}
 
 -- all keep as before but scope h

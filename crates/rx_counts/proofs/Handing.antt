@@ -5,14 +5,14 @@ use Rattle.std.specs.Global.{Box}
 use Rattle.std.proofs.lemmas.Bool.{eqb-true, eq-eqb, ne_eqb, true≢false, and_parts, and_right, or_left, lt-ltb, cases_eq}
 use Rattle.std.proofs.lemmas.List.Sums.{sum_by-cons}
 use Rattle.std.proofs.Math.Bool.{and-false, and-true}
-use Rattle.rx_sound.proofs.Staying.{any_same}
+use Rattle.rx_tree_laws.proofs.Staying.{any_same}
 use Rattle.rx_rules.proofs.Common.{has_bit, ScopeId, is_scope, was_lost_at, has_number}
 use Rattle.rx_rules.specs.declared.tasks.Task.{Task}
 use Rattle.rx_rules.specs.declared.tasks.Scope.{Scope}
-use Rattle.rx_sound.specs.Chains.{Falls}
-use Rattle.rx_sound.specs.Sound.{Each}
-use Rattle.rx_sound.proofs.Changes.{each_more}
-use Rattle.rx_sound.proofs.Releasing.{each_below, each_all, each_numbered}
+use Rattle.rx_tree_laws.specs.Chains.{Falls}
+use Rattle.rx_tree_laws.specs.Sound.{Each}
+use Rattle.rx_tree_laws.proofs.Changes.{each_more}
+use Rattle.rx_tree_laws.proofs.Releasing.{each_below, each_all, each_numbered}
 use Rattle.rx_counts.specs.declared.record.Sums.{Sums}
 use Rattle.rx_counts.specs.declared.record.Record.{Record}
 use Rattle.rx_counts.specs.Keeping.{keeper, is_number, kept_at, same_where, is_orphan, held, orphans_of}

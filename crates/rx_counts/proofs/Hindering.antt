@@ -2,18 +2,18 @@
 use Rattle.std.proofs.Common.{◌≡◌, ℕ, zero, suc, ◌<◌, ◌≤◌, ◌%◌, Bool, true, false, cond, ◌||◌, ◌&&◌, ◌==◌, not, List, [], ◌∷◌, ◌++◌, Some, None, IfSome, is_none, length, slice_index_or, count_by, filter, refl, sym, ap, ◌∙◌, subst, arith}
 use Rattle.std.specs.List.{list_any}
 use Rattle.std.proofs.lemmas.Bool.{eq-eqb, ne_eqb, true≢false, and_parts, and_from, or_left, or_right, lt-ltb, not-false}
-use Rattle.rx_sound.proofs.Staying.{any_same}
+use Rattle.rx_tree_laws.proofs.Staying.{any_same}
 use Rattle.rx_rules.proofs.Common.{has_bit, members, all_places, PlaceId, ScopeId, Tree, is_under, quiet, was_lost_at, lost_under, masked_under, thrown_of}
-use Rattle.rx_base.proofs.Elements.{find-passes}
 use Rattle.rx_rules.specs.declared.tasks.Where.{Where}
 use Rattle.rx_rules.specs.declared.tasks.Where.TheVariants.{At, Travel}
 use Rattle.rx_rules.specs.declared.tasks.Task.{Task}
 use Rattle.rx_rules.specs.declared.tasks.Scope.{Scope}
-use Rattle.rx_sound.specs.Sound.{Each, Sound}
-use Rattle.rx_sound.proofs.Changes.{each_found, each_more}
-use Rattle.rx_sound.proofs.Below.{found_any}
-use Rattle.rx_sound.proofs.Reached.{sound}
-use Rattle.rx_sound.proofs.Releasing.{on_meets, each_all}
+use Rattle.rx_base.proofs.Elements.{find-passes}
+use Rattle.rx_tree_laws.specs.Sound.{Each, Sound}
+use Rattle.rx_tree_laws.proofs.Changes.{each_found, each_more}
+use Rattle.rx_tree_laws.proofs.Below.{found_any}
+use Rattle.rx_tree_laws.proofs.Reached.{sound}
+use Rattle.rx_tree_laws.proofs.Releasing.{on_meets, each_all}
 use Rattle.rx_finish.specs.Calls.{IsHindered, landing}
 use Rattle.rx_counts.specs.declared.record.Sums.{Sums}
 use Rattle.rx_counts.specs.declared.record.Record.{Record}

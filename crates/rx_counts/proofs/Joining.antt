@@ -5,14 +5,14 @@ use Rattle.std.specs.Global.{Box}
 use Rattle.std.proofs.lemmas.Bool.{eqb-true, eq-eqb, ne_eqb, true≢false, and_left, and_right, cases_eq}
 use Rattle.std.proofs.lemmas.List.{get_or-set_same, get_or-set_other, length-set}
 use Rattle.std.proofs.Math.Bool.{and-true}
-use Rattle.rx_sound.proofs.Waiting.{tasks_below}
+use Rattle.rx_tree_laws.proofs.Waiting.{tasks_below}
 use Rattle.rx_rules.proofs.Common.{TaskId, is_task, change_first, was_lost_at, has_bit, has_number}
 use Rattle.rx_rules.specs.declared.tasks.Where.{Where}
 use Rattle.rx_rules.specs.declared.tasks.Blow.{Blow}
 use Rattle.rx_rules.specs.declared.tasks.Task.{Task}
 use Rattle.rx_rules.specs.declared.tasks.Scope.{Scope}
-use Rattle.rx_sound.specs.Sound.{TasksFall}
-use Rattle.rx_sound.proofs.Changes.{each_more}
+use Rattle.rx_tree_laws.specs.Sound.{TasksFall}
+use Rattle.rx_tree_laws.proofs.Changes.{each_more}
 use Rattle.rx_counts.specs.declared.record.Sums.{Sums}
 use Rattle.rx_counts.specs.declared.record.Record.{Record}
 use Rattle.rx_counts.specs.Keeping.{keeper, is_number, kept_at, same_where}

@@ -3,20 +3,23 @@ use Rattle.std.proofs.Common.{◌≡◌, ℕ, ◌<◌, ◌≤◌, Bool, true, fa
 use Rattle.std.specs.List.{find, list_any}
 use Rattle.std.proofs.lemmas.Bool.{eqb-true, eq-eqb, ne_eqb, true≢false, or_from, or_parts, and_from, and_left, and_right, not-true}
 use Rattle.std.proofs.Math.Bool.{and-true}
-use Rattle.rx_sound.proofs.Opening.{own_place}
-use Rattle.rx_sound.proofs.Waiting.{each_stands}
-use Rattle.rx_sound.proofs.Enabling.{any_none}
+use Rattle.rx_tree_laws.proofs.Opening.{own_place}
+use Rattle.rx_tree_laws.proofs.Waiting.{each_stands}
+use Rattle.rx_tree_laws.proofs.Enabling.{any_none}
 use Rattle.rx_rules.proofs.Common.{TaskId, ScopeId, Tree, is_task, task_of, is_scope, opened_by, own_scope, is_under, quiet, the_root}
+use Rattle.rx_rules.specs.declared.tasks.Where.TheVariants.{At}
+use Rattle.rx_rules.specs.declared.tasks.Task.{Task}
+use Rattle.rx_rules.specs.declared.tasks.Scope.{Scope}
 use Rattle.rx_base.proofs.Elements.{find-passes}
 use Rattle.rx_rules.specs.declared.tasks.Where.TheVariants.{At}
 use Rattle.rx_rules.specs.declared.tasks.Task.{Task}
 use Rattle.rx_rules.specs.declared.tasks.Scope.{Scope}
 use Rattle.rx_finish.specs.Callers.{HasRoot}
-use Rattle.rx_sound.specs.Blows.{blow_at}
-use Rattle.rx_sound.specs.Chains.{meets, HasOpener, Opened}
-use Rattle.rx_sound.specs.Sound.{TaskFits, Sound}
-use Rattle.rx_sound.proofs.Changes.{each_found, each_more}
-use Rattle.rx_sound.proofs.Releasing.{on_meets, each_none}
+use Rattle.rx_tree_laws.specs.Blows.{blow_at}
+use Rattle.rx_tree_laws.specs.Chains.{meets, HasOpener, Opened}
+use Rattle.rx_tree_laws.specs.Sound.{TaskFits, Sound}
+use Rattle.rx_tree_laws.proofs.Changes.{each_found, each_more}
+use Rattle.rx_tree_laws.proofs.Releasing.{on_meets, each_none}
 use Rattle.rx_counts.specs.Inside.Freeing.{IsLast}
 use Rattle.rx_counts.specs.Keeping.{stands_home, keeper, is_number, total_of}
 use Rattle.rx_counts.proofs.Below.{Empty, under_none_at, all_kept_here}

@@ -10,11 +10,11 @@ use Rattle.rx_base.proofs.SameIds.{scope-is}
 use Rattle.rx_base.proofs.Elements.{find-passes}
 use Rattle.rx_rules.specs.declared.tasks.Task.{Task}
 use Rattle.rx_rules.specs.declared.tasks.Scope.{Scope}
-use Rattle.rx_sound.specs.Chains.{meets, Falls, Opened}
-use Rattle.rx_sound.specs.Sound.{Sound, Each}
-use Rattle.rx_sound.proofs.Changes.{each_more}
-use Rattle.rx_sound.proofs.Releasing.{each_all}
-use Rattle.rx_sound.proofs.Stay.{faulted}
+use Rattle.rx_tree_laws.specs.Chains.{meets, Falls, Opened}
+use Rattle.rx_tree_laws.specs.Sound.{Sound, Each}
+use Rattle.rx_tree_laws.proofs.Changes.{each_more}
+use Rattle.rx_tree_laws.proofs.Releasing.{each_all}
+use Rattle.rx_tree_laws.proofs.Stay.{faulted}
 use Rattle.rx_counts.specs.declared.record.Sums.{Sums}
 use Rattle.rx_counts.specs.declared.record.Record.{Record}
 use Rattle.rx_counts.specs.Keeping.{stands_home, keeper, is_number, is_orphan, held, faults_in, masked_of}

@@ -6,17 +6,17 @@ use Rattle.std.proofs.lemmas.Bool.{eq-eqb, ne_eqb, and_left, and_right, cases_eq
 use Rattle.std.proofs.lemmas.List.{get_or-replicate, get_or_past, length-replicate}
 use Rattle.std.proofs.lemmas.List.Sums.{sum_by-cons}
 use Rattle.rx_base.proofs.Bits.{no_bit}
-use Rattle.rx_sound.proofs.Staying.{any_same}
-use Rattle.rx_sound.proofs.Below.{found_low}
-use Rattle.rx_sound.proofs.Enabling.{any_none}
+use Rattle.rx_tree_laws.proofs.Staying.{any_same}
+use Rattle.rx_tree_laws.proofs.Below.{found_low}
+use Rattle.rx_tree_laws.proofs.Enabling.{any_none}
 use Rattle.rx_rules.proofs.Common.{ScopeId, was_lost_at, has_number}
 use Rattle.rx_rules.specs.declared.tasks.Where.{Where}
 use Rattle.rx_rules.specs.declared.tasks.Task.{Task}
 use Rattle.rx_rules.specs.declared.tasks.Scope.{Scope}
-use Rattle.rx_sound.specs.Chains.{Falls}
-use Rattle.rx_sound.specs.Sound.{Each}
-use Rattle.rx_sound.proofs.Changes.{each_more}
-use Rattle.rx_sound.proofs.Releasing.{each_below}
+use Rattle.rx_tree_laws.specs.Chains.{Falls}
+use Rattle.rx_tree_laws.specs.Sound.{Each}
+use Rattle.rx_tree_laws.proofs.Changes.{each_more}
+use Rattle.rx_tree_laws.proofs.Releasing.{each_below}
 use Rattle.rx_counts.specs.declared.record.Sums.{Sums}
 use Rattle.rx_counts.specs.declared.record.Record.{Record}
 use Rattle.rx_counts.specs.Keeping.{keeper, finishes, is_number, kept_at, same_where, is_orphan, held}

@@ -5,14 +5,14 @@ use Rattle.std.specs.Global.{Box}
 use Rattle.std.proofs.lemmas.Bool.{eqb-true, eq-eqb, ne_eqb, true≢false, and_parts, lt-ltb, le-ltb, cases_eq, cases_lt}
 use Rattle.std.proofs.lemmas.List.Sums.{count_by-le-length}
 use Rattle.std.proofs.Math.Bool.{and-false, and-true}
-use Rattle.rx_sound.proofs.Parents.{parent_rooted}
+use Rattle.rx_tree_laws.proofs.Parents.{parent_rooted}
 use Rattle.rx_rules.proofs.Common.{PlaceId, ScopeId, Tree, is_scope, the_root, has_number}
-use Rattle.rx_base.proofs.Options.{some-of}
 use Rattle.rx_rules.specs.declared.tasks.Scope.{Scope}
-use Rattle.rx_sound.specs.Chains.{Falls}
-use Rattle.rx_sound.specs.Sound.{Each}
-use Rattle.rx_sound.proofs.Changes.{each_found, each_more}
-use Rattle.rx_sound.proofs.Releasing.{each_none, each_below}
+use Rattle.rx_base.proofs.Options.{some-of}
+use Rattle.rx_tree_laws.specs.Chains.{Falls}
+use Rattle.rx_tree_laws.specs.Sound.{Each}
+use Rattle.rx_tree_laws.proofs.Changes.{each_found, each_more}
+use Rattle.rx_tree_laws.proofs.Releasing.{each_none, each_below}
 use Rattle.rx_counts.specs.declared.record.Sums.{Sums}
 use Rattle.rx_counts.specs.declared.record.Record.{Record}
 use Rattle.rx_counts.specs.Keeping.{stands_home, keeper, is_number, kept_at, same_where, count_of, is_orphan, faults_in}

@@ -4,8 +4,8 @@ use Rattle.std.proofs.lemmas.Bool.{true≢false}
 use Rattle.rx_rules.proofs.Common.{ScopeId, Tree, quiet}
 use Rattle.rx_base.proofs.Options.{none-of}
 use Rattle.rx_rules.specs.declared.tasks.Blow.{Blow}
-use Rattle.rx_sound.specs.Blows.{blow_at}
-use Rattle.rx_sound.proofs.Reached.{sound}
+use Rattle.rx_tree_laws.specs.Blows.{blow_at}
+use Rattle.rx_tree_laws.proofs.Reached.{sound}
 use Rattle.rx_finish.specs.declared.ledger.Caller.{Caller}
 use Rattle.rx_finish.specs.Callers.{MayAskRelease, WaitsInside}
 use Rattle.rx_finish.specs.Calls.{is_ready, blow_of}

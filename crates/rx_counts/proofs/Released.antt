@@ -7,9 +7,9 @@ use Rattle.rx_rules.proofs.Common.{ScopeId, Tree, is_scope, on_chain, is_under, 
 use Rattle.rx_base.proofs.SameIds.{scope-is}
 use Rattle.rx_rules.specs.declared.tasks.Task.{Task}
 use Rattle.rx_rules.specs.declared.tasks.Scope.{Scope}
-use Rattle.rx_sound.specs.Chains.{meets}
-use Rattle.rx_sound.specs.Sound.{Sound}
-use Rattle.rx_sound.proofs.Releasing.{on_meets, passes_marks, drops, leaves, stayer_free, each_none, each_filtered, each_all}
+use Rattle.rx_tree_laws.specs.Chains.{meets}
+use Rattle.rx_tree_laws.specs.Sound.{Sound}
+use Rattle.rx_tree_laws.proofs.Releasing.{on_meets, passes_marks, drops, leaves, stayer_free, each_none, each_filtered, each_all}
 use Rattle.rx_counts.specs.declared.record.Record.{Record}
 use Rattle.rx_counts.specs.Keeping.{stands_home, keeper, finishes, is_number, kept_at, same_where, is_orphan, held}
 use Rattle.rx_counts.specs.Stands.{RecordOf, Both, RecordsFit, record_at}

@@ -7,7 +7,7 @@ use Rattle.rx_rules.proofs.Common.{PlaceId, ScopeId, Tree, is_scope, has_number}
 use Rattle.rx_base.proofs.Elements.{find-passes}
 use Rattle.rx_rules.specs.declared.tasks.Blow.{Blow}
 use Rattle.rx_rules.specs.declared.tasks.Scope.{Scope}
-use Rattle.rx_sound.specs.Blows.{death_blow}
+use Rattle.rx_tree_laws.specs.Blows.{death_blow}
 use Rattle.rx_counts.specs.declared.record.Record.{Record}
 use Rattle.rx_counts.specs.Keeping.{stands_home, keeper}
 use Rattle.rx_counts.specs.Stands.{Both, ShapeOf, IsShaped, record_at}

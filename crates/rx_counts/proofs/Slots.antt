@@ -7,7 +7,7 @@ use Rattle.std.proofs.lemmas.List.{get_or_past}
 use Rattle.rx_rules.proofs.Common.{PlaceId, is_hit}
 use Rattle.rx_rules.specs.declared.tasks.Where.{Where}
 use Rattle.rx_rules.specs.declared.tasks.Where.TheVariants.{At, Travel}
-use Rattle.rx_sound.specs.Sound.{Inside}
+use Rattle.rx_tree_laws.specs.Sound.{Inside}
 use Rattle.rx_finish.specs.Calls.{landing}
 use Rattle.rx_counts.specs.Keeping.{same_where}
 use Rattle.rx_counts.specs.Stands.{row, column, table_size, is_inside, slot}

@@ -9,11 +9,11 @@ use Rattle.rx_rules.specs.declared.tasks.Blow.{Blow}
 use Rattle.rx_rules.specs.declared.tasks.Task.{Task}
 use Rattle.rx_rules.specs.declared.tasks.Scope.{Scope}
 use Rattle.rx_rules.specs.declared.entries.Act.TheVariants.{Spawn}
-use Rattle.rx_sound.specs.Blows.{death_blow}
-use Rattle.rx_sound.specs.Chains.{meets}
-use Rattle.rx_sound.specs.Sound.{Sound, Inside}
-use Rattle.rx_sound.proofs.Opening.{governs_rooted}
-use Rattle.rx_sound.proofs.Reached.{sound}
+use Rattle.rx_tree_laws.specs.Blows.{death_blow}
+use Rattle.rx_tree_laws.specs.Chains.{meets}
+use Rattle.rx_tree_laws.specs.Sound.{Sound, Inside}
+use Rattle.rx_tree_laws.proofs.Opening.{governs_rooted}
+use Rattle.rx_tree_laws.proofs.Reached.{sound}
 use Rattle.rx_finish.specs.declared.ledger.Caller.{Caller}
 use Rattle.rx_finish.specs.Callers.{MayAskTo, IsMoving}
 use Rattle.rx_finish.specs.Calls.{SpawnReply}

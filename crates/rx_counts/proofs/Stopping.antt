@@ -8,17 +8,17 @@ use Rattle.rx_rules.proofs.Common.{ScopeId, Tree, is_scope, on_chain, quiet, mas
 use Rattle.rx_base.proofs.Elements.{find-passes}
 use Rattle.rx_base.proofs.SameIds.{scope-is}
 use Rattle.rx_rules.specs.declared.tasks.Scope.{Scope}
-use Rattle.rx_sound.specs.Chains.{meets, Falls}
-use Rattle.rx_sound.specs.Sound.{Each, Sound}
-use Rattle.rx_sound.proofs.Changes.{each_found, each_more}
-use Rattle.rx_sound.proofs.Releasing.{each_all, each_below, each_both, each_none, on_meets}
-use Rattle.rx_sound.proofs.Parents.{met_found}
-use Rattle.rx_sound.proofs.Reached.{sound}
+use Rattle.rx_tree_laws.specs.Chains.{meets, Falls}
+use Rattle.rx_tree_laws.specs.Sound.{Each, Sound}
+use Rattle.rx_tree_laws.proofs.Changes.{each_found, each_more}
+use Rattle.rx_tree_laws.proofs.Releasing.{each_all, each_below, each_both, each_none, on_meets}
+use Rattle.rx_tree_laws.proofs.Parents.{met_found}
+use Rattle.rx_tree_laws.proofs.Reached.{sound}
 use Rattle.rx_counts.specs.declared.record.Record.{Record}
 use Rattle.rx_counts.specs.declared.ledger.CountLedger.{CountLedger}
 use Rattle.rx_counts.specs.Keeping.{stands_home, keeper, is_number, is_orphan, orphans_of, faults_in, masked_of}
 use Rattle.rx_counts.specs.Stands.{ShapeOf, StandsFor, record_at}
-use Rattle.rx_counts.specs.Inside.Freeing.{IsLast, Takes, parent_gone}
+use Rattle.rx_counts.specs.Inside.Freeing.{IsLast, ScopesBelow, parent_gone}
 use Rattle.rx_counts.proofs.Counting.{one, count_cons, count_split, count_none, none_counted, sum_same, sum_where}
 use Rattle.rx_counts.proofs.Walks.{keeper_step}
 use Rattle.rx_counts.proofs.Shapes.{both_none, shape_in}
@@ -111,7 +111,7 @@ taken_on s gs i =
     (each_all _ (λ (g : Scope). one_number (meets s gs (Some g.number)) g.number.0 i) gs)
 
 -- whether the code drops the number is whether one more is taken
-taken_here : (T : Tree) (rs ps : List (Option (Box Record))) (s u : ScopeId) (n : ℕ) (goes : Bool) → Takes T s n rs
+taken_here : (T : Tree) (rs ps : List (Option (Box Record))) (s u : ScopeId) (n : ℕ) (goes : Bool) → ScopesBelow T s n rs
     → (goes ≡ (u.0 == s.0 || parent_gone ps (record_at ps u.0))) → ((v : ScopeId) → v.0 < u.0
     → record_at ps v.0 ≡ cond (meets s T.scopes (Some v)) None (record_at rs v.0)) → record_at ps u.0 ≡ record_at rs u.0
     → count_by (λ g. meets s T.scopes (Some g.number) && has_number u.0 g) T.scopes ≡ one goes
@@ -137,7 +137,7 @@ taken_here T rs ps s u n goes h e below above =
 
 -- The number that is left, before the first turn and in each.
 
-pub left_first : (T : Tree) (rs : List (Option (Box Record))) (s : ScopeId) (n : ℕ) → Takes T s n rs
+pub left_first : (T : Tree) (rs : List (Option (Box Record))) (s : ScopeId) (n : ℕ) → ScopesBelow T s n rs
     → n + 1 + taken_below s T.scopes s.0 ≡ n + 1
 left_first T rs s n h =
     let a : taken_below s T.scopes s.0 ≡ 0 =
@@ -151,7 +151,7 @@ left_first T rs s n h =
     T.scopes) in
     omega arith
 
-pub left_on : (T : Tree) (rs ps : List (Option (Box Record))) (s : ScopeId) (i n left took : ℕ) (goes : Bool) → Takes T s n rs
+pub left_on : (T : Tree) (rs ps : List (Option (Box Record))) (s : ScopeId) (i n left took : ℕ) (goes : Bool) → ScopesBelow T s n rs
     → (goes ≡ (i == s.0 || parent_gone ps (record_at ps i))) → ((v : ScopeId) → v.0 < i
     → record_at ps v.0 ≡ cond (meets s T.scopes (Some v)) None (record_at rs v.0)) → ((m : ℕ) → i ≤ m
     → record_at ps m ≡ record_at rs m) → took ≡ cond goes 1 0 → (left ≡ 0 → ⊥) → left + taken_below s T.scopes i ≡ n + 1
@@ -170,7 +170,7 @@ left_on T rs ps s i n left took goes h e below above many some sum =
     at_most false = omega arith
 
 -- none is left: who has a number from i on stays
-pub none_left : (T : Tree) (rs ps : List (Option (Box Record))) (s : ScopeId) (i n left : ℕ) → Takes T s n rs → ((v : ScopeId)
+pub none_left : (T : Tree) (rs ps : List (Option (Box Record))) (s : ScopeId) (i n left : ℕ) → ScopesBelow T s n rs → ((v : ScopeId)
     → v.0 < i → record_at ps v.0 ≡ cond (meets s T.scopes (Some v)) None (record_at rs v.0)) → ((m : ℕ) → i ≤ m
     → record_at ps m ≡ record_at rs m) → left ≡ 0 → left + taken_below s T.scopes i ≡ n + 1 → (u : ScopeId)
     → record_at ps u.0 ≡ cond (meets s T.scopes (Some u)) None (record_at rs u.0)
@@ -284,7 +284,7 @@ masked_named T s h i still =
     T.scopes (each_known T s h i)))
 
 pub takes : {room : ℕ} (l : CountLedger) (T : Tree) (s : ScopeId) (n : ℕ) → StandsFor l room T → IsLast T s → quiet T s ≡ true
-    → n ≡ orphans_of (stands_home T.dead) T.scopes s.0 → Takes T s n l.scopes
+    → n ≡ orphans_of (stands_home T.dead) T.scopes s.0 → ScopesBelow T s n l.scopes
 takes l T s n st i still e =
     let h : Sound T = sound st.reached in
     let keeps : Scope → Bool = stands_home T.dead in

@@ -4,17 +4,17 @@ use Rattle.std.specs.List.{find, list_any}
 use Rattle.std.specs.Global.{Box}
 use Rattle.std.proofs.lemmas.Bool.{eqb-true, true≢false, and_parts, lt-ltb, le-ltb, cases_eq, cases_lt, false_from_ne_true}
 use Rattle.std.proofs.Math.Bool.{and-false, and-true}
-use Rattle.rx_sound.proofs.Releasing.{each_all}
-use Rattle.rx_sound.proofs.Staying.{any_same}
+use Rattle.rx_tree_laws.proofs.Releasing.{each_all}
+use Rattle.rx_tree_laws.proofs.Staying.{any_same}
 use Rattle.rx_rules.proofs.Common.{PlaceId, ScopeId, hit, is_hit, was_lost_at, has_number}
-use Rattle.rx_base.proofs.Bools.{same-or-false}
 use Rattle.rx_rules.specs.declared.tasks.Where.{Where}
 use Rattle.rx_rules.specs.declared.tasks.Where.TheVariants.{At, Travel}
 use Rattle.rx_rules.specs.declared.tasks.Blow.{Blow}
 use Rattle.rx_rules.specs.declared.tasks.Task.{Task}
 use Rattle.rx_rules.specs.declared.tasks.Scope.{Scope}
-use Rattle.rx_sound.proofs.Changes.{each_more}
-use Rattle.rx_sound.proofs.Blows.{hit_under, hit_place, hit_struck}
+use Rattle.rx_base.proofs.Bools.{same-or-false}
+use Rattle.rx_tree_laws.proofs.Changes.{each_more}
+use Rattle.rx_tree_laws.proofs.Blows.{hit_under, hit_place, hit_struck}
 use Rattle.rx_counts.specs.declared.record.Sums.{Sums}
 use Rattle.rx_counts.specs.declared.record.Record.{Record}
 use Rattle.rx_counts.specs.Keeping.{keeper, is_number, kept_at, same_where, count_of, total_of}

@@ -4,23 +4,23 @@ use Rattle.std.specs.List.{find}
 use Rattle.std.specs.Global.{Box}
 use Rattle.std.proofs.lemmas.Bool.{eqb-true, eq-eqb, ne_eqb, false_from_ne_true, cases_eq, cases_lt}
 use Rattle.std.proofs.Math.Bool.{and-false, and-true}
-use Rattle.rx_sound.proofs.Freeing.{meets_none}
-use Rattle.rx_sound.proofs.Parents.{met_found}
+use Rattle.rx_tree_laws.proofs.Freeing.{meets_none}
+use Rattle.rx_tree_laws.proofs.Parents.{met_found}
 use Rattle.rx_rules.proofs.Common.{TaskId, ScopeId, Tree, is_scope, wants, the_root, quiet, without, has_number}
-use Rattle.rx_base.proofs.Options.{some-of}
-use Rattle.rx_base.proofs.Elements.{find-passes}
 use Rattle.rx_rules.specs.declared.tasks.Task.{Task}
 use Rattle.rx_rules.specs.declared.tasks.Scope.{Scope}
-use Rattle.rx_sound.specs.Chains.{meets, Falls, HasOpener, Opened}
-use Rattle.rx_sound.proofs.Below.{met_newer}
-use Rattle.rx_sound.proofs.Reached.{sound}
+use Rattle.rx_base.proofs.Options.{some-of}
+use Rattle.rx_base.proofs.Elements.{find-passes}
+use Rattle.rx_tree_laws.specs.Chains.{meets, Falls, HasOpener, Opened}
+use Rattle.rx_tree_laws.proofs.Below.{met_newer}
+use Rattle.rx_tree_laws.proofs.Reached.{sound}
 use Rattle.rx_counts.specs.declared.record.Record.{Record}
 use Rattle.rx_counts.specs.declared.ledger.CountLedger.{CountLedger}
 use Rattle.rx_counts.specs.Keeping.{keeper, is_number, stands_home}
 use Rattle.rx_counts.specs.Stands.{ShapeOf, Fit, StandsFor, IsShaped, record_at}
 use Rattle.rx_counts.specs.Inside.Totalling.{fewer_scopes}
 use Rattle.rx_counts.proofs.Totalling.{are, totals_are, one_freed}
-use Rattle.rx_counts.specs.Inside.Freeing.{IsLast, Takes, parent_gone, OutcomeReply, FreeReply}
+use Rattle.rx_counts.specs.Inside.Freeing.{IsLast, ScopesBelow, parent_gone, OutcomeReply, FreeReply}
 use Rattle.rx_finish.specs.declared.ledger.LedgerFault.{LedgerFault}
 use Rattle.rx_finish.specs.declared.ledger.LedgerFault.TheVariants.{NotYet, Lost, NoMemory}
 use Rattle.rx_counts.proofs.Walks.{keeper_step, OlderThan}
@@ -127,7 +127,7 @@ none_before T rs s u h lt = false_from_ne_true (meets s T.scopes (Some u)) (λ m
 
 -- The ledger afterwards.
 
-pub freed : {room : ℕ} (l m : CountLedger) (T : Tree) (s : ScopeId) (n : ℕ) → StandsFor l room T → IsLast T s → quiet T s ≡ true → m.places ≡ l.places → m.width ≡ l.width → m.dead ≡ l.dead → m.next_task ≡ l.next_task → m.next_scope ≡ l.next_scope → m.totals ≡ fewer_scopes (n + 1) l.totals → Takes T s n l.scopes → length m.scopes ≡ length l.scopes → ((u : ScopeId) → record_at m.scopes u.0 ≡ cond (meets s T.scopes (Some u)) None (record_at l.scopes u.0)) → Fit m (without T s)
+pub freed : {room : ℕ} (l m : CountLedger) (T : Tree) (s : ScopeId) (n : ℕ) → StandsFor l room T → IsLast T s → quiet T s ≡ true → m.places ≡ l.places → m.width ≡ l.width → m.dead ≡ l.dead → m.next_task ≡ l.next_task → m.next_scope ≡ l.next_scope → m.totals ≡ fewer_scopes (n + 1) l.totals → ScopesBelow T s n l.scopes → length m.scopes ≡ length l.scopes → ((u : ScopeId) → record_at m.scopes u.0 ≡ cond (meets s T.scopes (Some u)) None (record_at l.scopes u.0)) → Fit m (without T s)
 freed l m T s n st i still places width dead next_task next_scope totals takes len gone =
     record {
       places = places ∙ st.fit.places;

@@ -3,21 +3,21 @@ use Rattle.std.proofs.Common.{◌≡◌, ℕ, ◌<◌, Bool, true, false, cond, 
 use Rattle.std.specs.List.{find, list_any}
 use Rattle.std.proofs.lemmas.Bool.{eqb-true, eq-eqb, ne_eqb, true≢false, or_right, or_left, and_from, not-true}
 use Rattle.std.proofs.Math.Bool.{and-false, and-true, or-false}
-use Rattle.rx_sound.proofs.Below.{found_low}
+use Rattle.rx_tree_laws.proofs.Below.{found_low}
 use Rattle.rx_rules.proofs.Common.{PlaceId, TaskId, ScopeId, Tree, is_task, is_scope, wants, opened_by, is_under, quiet}
 use Rattle.rx_rules.specs.declared.tasks.Where.{Where}
 use Rattle.rx_rules.specs.declared.tasks.Where.TheVariants.{At, Travel}
 use Rattle.rx_rules.specs.declared.tasks.Blow.{Blow}
 use Rattle.rx_rules.specs.declared.tasks.Task.{Task}
 use Rattle.rx_rules.specs.declared.tasks.Scope.{Scope}
-use Rattle.rx_sound.specs.Blows.{death_blow, blow_at}
-use Rattle.rx_sound.specs.Chains.{meets, Falls}
+use Rattle.rx_tree_laws.specs.Blows.{death_blow, blow_at}
+use Rattle.rx_tree_laws.specs.Chains.{meets, Falls}
 use Rattle.rx_counts.specs.Keeping.{stands_home, keeper, is_number, kept_at, same_where, total_of}
-use Rattle.rx_sound.specs.Sound.{Each, TaskFits, Sound}
-use Rattle.rx_sound.proofs.Changes.{each_found, each_more}
+use Rattle.rx_tree_laws.specs.Sound.{Each, TaskFits, Sound}
+use Rattle.rx_tree_laws.proofs.Changes.{each_found, each_more}
 use Rattle.rx_counts.proofs.Counting.{count_none, none_counted}
 use Rattle.rx_counts.proofs.Below.{HomesLive}
-use Rattle.rx_sound.proofs.Releasing.{on_meets, each_none, none_below}
+use Rattle.rx_tree_laws.proofs.Releasing.{on_meets, each_none, none_below}
 
 -- Homes.
 

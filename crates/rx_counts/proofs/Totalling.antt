@@ -2,16 +2,16 @@
 use Rattle.std.proofs.Common.{◌≡◌, ℕ, suc, ◌<◌, ◌≤◌, ◌+◌, ◌^◌, Bool, true, false, cond, ◌&&◌, not, List, [], ◌∷◌, Option, Some, None, is_none, is_some, filter, length, count_by, refl, sym, ap, ◌∙◌, arith}
 use Rattle.std.proofs.lemmas.Bool.{true≢false}
 use Rattle.std.proofs.lemmas.List.Sums.{count_by-le-length}
+use Rattle.rx_rules.proofs.Common.{ScopeId, Tree, is_under, on_chain, change_first, without}
 use Rattle.rx_rules.specs.declared.tasks.Where.{Where}
 use Rattle.rx_rules.specs.declared.tasks.Where.TheVariants.{At, Travel}
 use Rattle.rx_rules.specs.declared.tasks.Blow.{Blow}
 use Rattle.rx_rules.specs.declared.tasks.Task.{Task}
 use Rattle.rx_rules.specs.declared.tasks.Scope.{Scope}
-use Rattle.rx_rules.proofs.Common.{ScopeId, Tree, is_under, on_chain, change_first, without}
-use Rattle.rx_sound.specs.Chains.{meets, Falls}
-use Rattle.rx_sound.proofs.Reached.{sound}
-use Rattle.rx_sound.specs.Sound.{Sound}
-use Rattle.rx_sound.proofs.Releasing.{each_all, on_meets}
+use Rattle.rx_tree_laws.specs.Chains.{meets, Falls}
+use Rattle.rx_tree_laws.proofs.Reached.{sound}
+use Rattle.rx_tree_laws.specs.Sound.{Sound}
+use Rattle.rx_tree_laws.proofs.Releasing.{each_all, on_meets}
 use Rattle.rx_finish.specs.declared.totals.Totals.{Totals}
 use Rattle.rx_finish.specs.Callers.{does_travel}
 use Rattle.rx_finish.specs.Totals.{is_live, is_travelling, totals_of}

@@ -4,9 +4,9 @@ use Rattle.rx_rules.proofs.Common.{Fault, TaskId, ScopeId, Tree, is_task, is_sco
 use Rattle.rx_rules.specs.declared.entries.Act.TheVariants.{Wait}
 use Rattle.std.specs.List.{find}
 use Rattle.rx_rules.specs.declared.tasks.Scope.{Scope}
-use Rattle.rx_sound.specs.Sound.{Sound}
-use Rattle.rx_sound.proofs.Reached.{sound}
-use Rattle.rx_sound.proofs.Stay.{faulted}
+use Rattle.rx_tree_laws.specs.Sound.{Sound}
+use Rattle.rx_tree_laws.proofs.Reached.{sound}
+use Rattle.rx_tree_laws.proofs.Stay.{faulted}
 use Rattle.rx_finish.specs.declared.ledger.Caller.{Caller}
 use Rattle.rx_finish.specs.Callers.{MayAskWait, HasFinish}
 use Rattle.rx_finish.specs.Calls.{WaitReply}

@@ -3,15 +3,15 @@ use Rattle.std.proofs.Common.{◌≡◌, ℕ, ◌<◌, ◌≤◌, Bool, true, fa
 use Rattle.std.specs.List.{find, list_any}
 use Rattle.std.proofs.lemmas.Bool.{eqb-true, eq-eqb, true≢false, and_parts, or_parts}
 use Rattle.std.proofs.Math.Bool.{and-true}
-use Rattle.rx_sound.proofs.Below.{found_low}
+use Rattle.rx_tree_laws.proofs.Below.{found_low}
 use Rattle.rx_rules.proofs.Common.{Fault, TaskId, ScopeId, is_scope, wants, the_root, chain_in, change_first, has_number}
 use Rattle.rx_rules.specs.declared.tasks.Task.{Task}
 use Rattle.rx_rules.specs.declared.tasks.Scope.{Scope}
-use Rattle.rx_sound.specs.Chains.{meets, Falls, HasOpener, Opened}
-use Rattle.rx_sound.specs.Sound.{Each}
-use Rattle.rx_sound.proofs.Chains.{met_start, skips}
-use Rattle.rx_sound.proofs.Releasing.{passes}
-use Rattle.rx_sound.proofs.Stay.{faulted, wants_faulted}
+use Rattle.rx_tree_laws.specs.Chains.{meets, Falls, HasOpener, Opened}
+use Rattle.rx_tree_laws.specs.Sound.{Each}
+use Rattle.rx_tree_laws.proofs.Chains.{met_start, skips}
+use Rattle.rx_tree_laws.proofs.Releasing.{passes}
+use Rattle.rx_tree_laws.proofs.Stay.{faulted, wants_faulted}
 use Rattle.rx_counts.specs.Keeping.{keeper}
 
 -- a walk through a filtered list

@@ -20,7 +20,7 @@ use Rattle.rx_finish.specs.Totals.{totals_of}
 use Rattle.rx_counts.specs.declared.record.Sums.{Sums}
 use Rattle.rx_counts.specs.declared.record.Record.{Record}
 use Rattle.rx_counts.specs.declared.ledger.CountLedger.{CountLedger}
-use Rattle.rx_sound.specs.Chains.{Falls, Opened}
+use Rattle.rx_tree_laws.specs.Chains.{Falls, Opened}
 use Rattle.rx_counts.specs.Keeping.{stands_home, finishes, keeper, kept_at, count_of, total_of, orphans_of, masked_of}
 
 -- A table of counts has a column for each place that there is or may come to be. Row 0 has the live counts, and row p + 1 the transit

@@ -1,7 +1,7 @@
 // Where a caller is, and what the deaths of places tell of it.
 ghost use Rattle.std.specs.Prelude.{◌≡◌, is_none, cond, ◌==◌};
 ghost use Rattle.rx_rules.specs.Entries.{place_number};
-ghost use Rattle.rx_sound.specs.Blows.{death_blow, earlier, blow_at};
+ghost use Rattle.rx_tree_laws.specs.Blows.{death_blow, earlier, blow_at};
 ghost use Rattle.rx_finish.specs.Calls.{landing};
 ghost use Rattle.rx_counts.specs.Stands.{row, column, table_size, slot};
 

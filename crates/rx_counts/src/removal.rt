@@ -1,9 +1,9 @@
 // What a release takes out of the records.
 ghost use Rattle.std.specs.Prelude.{◌≡◌, ◌<◌, ◌+◌, ◌==◌, ◌||◌, ◌&&◌, ◌%◌, ℕ, cond, length, None, Some, is_some};
 ghost use Rattle.rx_rules.specs.Tree.{Tree};
-ghost use Rattle.rx_sound.specs.Chains.{meets};
+ghost use Rattle.rx_tree_laws.specs.Chains.{meets};
 ghost use Rattle.rx_counts.specs.Stands.{record_at};
-ghost use Rattle.rx_counts.specs.Inside.Freeing.{Hides, Takes, parent_gone};
+ghost use Rattle.rx_counts.specs.Inside.Freeing.{Hides, ScopesBelow, parent_gone};
 
 use crate::cells::Cells;
 use crate::pages::Pages;
@@ -72,7 +72,7 @@ pub fn hindrance(counts: &Cells, places: u8) -> PlaceId
 pub fn remove(scopes: &mut Pages, s: ScopeId, orphans: u32)
     requires { s.0 < length scopes.old }
     ensures len { length scopes.new ≡ length scopes.old }
-    ensures taken { (T : Tree) → Takes T s orphans scopes.old → (u : ScopeId) →
+    ensures taken { (T : Tree) → ScopesBelow T s orphans scopes.old → (u : ScopeId) →
         record_at scopes.new u.0 ≡ cond (meets s T.scopes (Some u)) None (record_at scopes.old u.0) }
 {
     let mut left = orphans as usize + 1;

@@ -7,9 +7,9 @@ use Rattle.rx_rules.specs.declared.tasks.Task.{Task}
 use Rattle.rx_rules.specs.declared.entries.Act.{Act}
 use Rattle.rx_rules.specs.declared.entries.Act.TheVariants.{Open, At as Calls, Spawn, Arrive, Wait, Release, End, Print, Census}
 use Rattle.rx_rules.specs.Reached.{ends}
-use Rattle.rx_sound.specs.Blows.{blow_at}
-use Rattle.rx_sound.specs.Sound.{TaskFits, LeftFits, Sound}
-use Rattle.rx_sound.proofs.Changes.{each_found}
+use Rattle.rx_tree_laws.specs.Blows.{blow_at}
+use Rattle.rx_tree_laws.specs.Sound.{TaskFits, LeftFits, Sound}
+use Rattle.rx_tree_laws.proofs.Changes.{each_found}
 use Rattle.rx_finish.specs.declared.ledger.Caller.{Caller}
 use Rattle.rx_finish.specs.Callers.{gone_of, CallerStands, HasLeft}
 use Rattle.rx_finish.specs.Calls.{blow_of}

@@ -5,7 +5,7 @@ use Rattle.rx_rules.proofs.Common.{TaskId, Tree, opening, tree_of, Given, Folds,
 use Rattle.rx_rules.specs.declared.entries.Act.{Act}
 use Rattle.rx_rules.specs.declared.entries.Entry.{Entry}
 use Rattle.rx_rules.specs.declared.entries.Entry.TheVariants.{Step, Root, Death, Join}
-use Rattle.rx_sound.specs.Sound.{Each}
+use Rattle.rx_tree_laws.specs.Sound.{Each}
 use Rattle.rx_runs.proofs.Append.{allowed-first, plan-first}
 use Rattle.rx_history.specs.Setups.{given}
 use Rattle.rx_history.specs.declared.setup.Setup.{Setup}
@@ -22,7 +22,7 @@ use Rattle.rx_kills.specs.Least.{entry_of}
 use Rattle.rx_ledger.specs.Told.{due_entries}
 use Rattle.rx_ledger.specs.Asking.{MayApply}
 use Rattle.rx_ledger.specs.Answering.{Answers, asker}
-use Rattle.rx_ledger.specs.Kept.{Kept, is_refusal, Refused, Answered, Applied, AppliedIf, IsHistory}
+use Rattle.rx_ledger.specs.Kept.{KeeperView, is_refusal, Refused, Answered, Applied, AppliedIf, IsHistory}
 use Rattle.rx_ledger.specs.GoingOn.{MayGoOn, MayBegin}
 use Rattle.rx_ledger.specs.Owned.{Owned, own_after, own_from, own_told}
 use Rattle.rx_ledger.specs.Staying.{NotBy, NotOf}
@@ -114,15 +114,15 @@ spare_due t (d ∷ ds) fs h = (spare_one t d, spare_due t ds fs h)
 
 -- The history after a call that answers.
 
-folds_seen : (k k' : Kept) → IsHistory k' → k'.setup ≡ k.setup → k'.behind ≡ [] → Folds (given k.setup) k'.entries
+folds_seen : (k k' : KeeperView) → IsHistory k' → k'.setup ≡ k.setup → k'.behind ≡ [] → Folds (given k.setup) k'.entries
 folds_seen k k' h setup whole =
     subst (λ (s : Setup). Folds (given s) k'.entries) setup
     (subst (λ (es : List Entry). Folds (given k'.setup) es) (ap (λ (bs : List Entry). k'.entries ++ bs) whole ∙ append-nil k'.entries) h.folds)
 
-seen_as : (k k' : Kept) → k'.setup ≡ k.setup → tree_of k.setup.places k'.entries ≡ tree_seen k'
+seen_as : (k k' : KeeperView) → k'.setup ≡ k.setup → tree_of k.setup.places k'.entries ≡ tree_seen k'
 seen_as k k' e = ap (λ (s : Setup). tree_of s.places k'.entries) (sym e)
 
-by_refusal : (r : Reply) (k k' : Kept) (q : Request) (C : Type 0) → Applied k q r k' → (Refused k q r k' → C) → (Answered k q r k' → C) → C
+by_refusal : (r : Reply) (k k' : KeeperView) (q : Request) (C : Type 0) → Applied k q r k' → (Refused k q r k' → C) → (Answered k q r k' → C) → C
 by_refusal r k k' q C h f g =
     (elim (is_refusal r) as (λ b. AppliedIf b k q r k' → C) [
       | true ↦ f
@@ -130,7 +130,7 @@ by_refusal r k k' q C h f g =
     ]) h
 
 -- the history after the deaths and joins that were due
-pub folds_between : (k k' : Kept) (q : Request) (r : Reply) → IsHistory k' → (a : Answered k q r k') → Folds (given k.setup) (k.entries ++ due_entries a.due)
+pub folds_between : (k k' : KeeperView) (q : Request) (r : Reply) → IsHistory k' → (a : Answered k q r k') → Folds (given k.setup) (k.entries ++ due_entries a.due)
 folds_between k k' q r hist a =
     let es = k.entries ++ due_entries a.due in
     let m = more_of q es k'.entries (adds (tree_of k.setup.places es) es q r k'.entries a.answers) in

@@ -13,18 +13,18 @@ use Rattle.rx_rules.specs.declared.entries.Act.TheVariants.{Open, At as Called, 
 use Rattle.rx_rules.specs.declared.entries.Entry.{Entry}
 use Rattle.rx_rules.specs.declared.entries.Entry.TheVariants.{Step, Root, Death, Join}
 use Rattle.rx_rules.specs.Plays.{Fits}
-use Rattle.rx_sound.specs.Sound.{Sound}
-use Rattle.rx_sound.proofs.Reached.{sound}
-use Rattle.rx_sound.proofs.Reach.{task_below}
-use Rattle.rx_sound.proofs.Histories.{fold_reached}
+use Rattle.rx_tree_laws.specs.Sound.{Sound}
+use Rattle.rx_tree_laws.proofs.Reached.{sound}
+use Rattle.rx_tree_laws.proofs.Reach.{task_below}
+use Rattle.rx_tree_laws.proofs.Histories.{fold_reached}
 use Rattle.rx_finish.specs.declared.ledger.Caller.{Caller}
 use Rattle.rx_finish.specs.Callers.{MayAsk, MayAskMoving, MayAskArrive, MayAskRelease, HasNumbers, HasFinish, IsMoving, Travels, WaitsInside, does_travel}
 use Rattle.rx_finish.specs.Calls.{landing}
 use Rattle.rx_finish.proofs.Allowed.{Free, own_is}
-use Rattle.rx_sound.specs.Held.{is_held, HeldInFront}
-use Rattle.rx_sound.specs.Spine.{Spine}
-use Rattle.rx_sound.proofs.Granting.{AfterGrant}
-use Rattle.rx_sound.proofs.SpineGrants.{GrantsSpine}
+use Rattle.rx_tree_laws.specs.Held.{is_held, HeldInFront}
+use Rattle.rx_tree_laws.specs.Spine.{Spine}
+use Rattle.rx_tree_laws.proofs.Granting.{AfterGrant}
+use Rattle.rx_tree_laws.proofs.SpineGrants.{GrantsSpine}
 use Rattle.rx_chronicle.specs.Told.{parents_told, parent_told}
 use Rattle.rx_ledger.specs.Answering.{fresh_caller}
 use Rattle.rx_ledger.specs.Owned.{Owned, own_after, own_told}

@@ -2,10 +2,8 @@
 use Rattle.std.proofs.Common.{◌≡◌, ℕ, ◌<◌, ◌==◌, Bool, true, false, cond, not, ◌&&◌, is_some, List, [], ◌∷◌, Option, Some, None, refl, ap, ◌∙◌, sym, subst, arith, inl, inr}
 use Rattle.std.specs.List.{find}
 use Rattle.std.proofs.lemmas.Bool.{eq-eqb, ne_eqb}
-use Rattle.rx_rules.specs.declared.tasks.Where.TheVariants.{At, Travel}
 use Rattle.rx_rules.proofs.Common.{Reached, PlaceId, TaskId, ScopeId, Tree, task_of, is_task, is_scope, inner, own_scope, opened_by, is_under, AllowedAct, made_act, born, home_for, change_first, waiting, resumed, without, place_number, tree_of, Given, Folds, Fault, PlaceSet}
-use Rattle.rx_sound.proofs.Waiting.{waiter_owns}
-use Rattle.rx_finish.specs.Calls.{landing}
+use Rattle.rx_rules.specs.declared.tasks.Where.TheVariants.{At, Travel}
 use Rattle.rx_rules.specs.declared.entries.Act.{Act}
 use Rattle.rx_rules.specs.declared.entries.Act.TheVariants.{Open, At as Calls, Spawn, Arrive, Wait, Release, Print, Census}
 use Rattle.rx_rules.specs.declared.entries.Entry.{Entry}
@@ -13,12 +11,15 @@ use Rattle.rx_rules.specs.declared.entries.Entry.TheVariants.{Step}
 use Rattle.rx_rules.specs.declared.tasks.Kind.TheVariants.{Call}
 use Rattle.rx_rules.specs.declared.tasks.Task.{Task}
 use Rattle.rx_rules.specs.declared.tasks.Scope.{Scope}
-use Rattle.rx_sound.specs.Sound.{Sound}
-use Rattle.rx_sound.proofs.Reached.{sound}
-use Rattle.rx_sound.proofs.Opening.{own_place}
-use Rattle.rx_sound.proofs.Stay.{find_filter}
-use Rattle.rx_sound.proofs.Reach.{task_below}
-use Rattle.rx_sound.proofs.Histories.{fold_reached}
+use Rattle.rx_rules.specs.declared.tasks.Blow.{Blow}
+use Rattle.rx_tree_laws.proofs.Waiting.{waiter_owns}
+use Rattle.rx_finish.specs.Calls.{landing}
+use Rattle.rx_tree_laws.specs.Sound.{Sound}
+use Rattle.rx_tree_laws.proofs.Reached.{sound}
+use Rattle.rx_tree_laws.proofs.Opening.{own_place}
+use Rattle.rx_tree_laws.proofs.Stay.{find_filter}
+use Rattle.rx_tree_laws.proofs.Reach.{task_below}
+use Rattle.rx_tree_laws.proofs.Histories.{fold_reached}
 use Rattle.rx_finish.specs.declared.ledger.Caller.{Caller}
 use Rattle.rx_finish.specs.Callers.{Says, MayAsk, MayAskMoving, MayAskWait, MayAskRelease, MayAskArrive, HasFinish, WaitsInside, IsMoving, Travels, HasNumbers}
 use Rattle.rx_base.proofs.SameIds.{task-is}

@@ -6,9 +6,9 @@ use Rattle.rx_rules.specs.declared.entries.Act.{Act}
 use Rattle.rx_rules.specs.declared.entries.Entry.{Entry}
 use Rattle.rx_rules.specs.declared.entries.Entry.TheVariants.{Step}
 use Rattle.rx_rules.specs.declared.tasks.Task.{Task}
-use Rattle.rx_sound.proofs.Reach.{task_below}
-use Rattle.rx_sound.proofs.Reached.{sound}
-use Rattle.rx_sound.proofs.Histories.{fold_reached}
+use Rattle.rx_tree_laws.proofs.Reach.{task_below}
+use Rattle.rx_tree_laws.proofs.Reached.{sound}
+use Rattle.rx_tree_laws.proofs.Histories.{fold_reached}
 use Rattle.rx_history.specs.Setups.{given}
 use Rattle.rx_history.specs.declared.asks.Ask.{Ask}
 use Rattle.rx_history.specs.declared.asks.Ask.TheVariants.{Open, At as Calls, Spawn, Arrive, Wait, Release, End, Print, Root, Census}
@@ -23,7 +23,7 @@ use Rattle.rx_ledger.specs.Told.{due_entries}
 use Rattle.rx_ledger.specs.Answering.{asker}
 use Rattle.rx_ledger.specs.Asking.{IsTravelling, IsRunning, IsHeld, IsHost, MayAskFor}
 use Rattle.rx_ledger.specs.Calling.{IsNew, StartedAreNew}
-use Rattle.rx_ledger.specs.Kept.{Kept, Answered, IsHistory}
+use Rattle.rx_ledger.specs.Kept.{KeeperView, Answered, IsHistory}
 use Rattle.rx_ledger.specs.Owned.{own_after, own_told}
 use Rattle.rx_ledger.proofs.Called.{folds_between, own_append}
 use Rattle.rx_ledger.proofs.Keepers.{asks_after}
@@ -95,7 +95,7 @@ ticket_task false false x y c t n e a p q =
 
 -- What follows of a task with the next number.
 
-module _ (k k' : Kept) (q : Request) (r : Reply) (hist : IsHistory k') (a : Answered k q r k') where
+module _ (k k' : KeeperView) (q : Request) (r : Reply) (hist : IsHistory k') (a : Answered k q r k') where
   abbrev before : List Entry
   before = k.entries ++ due_entries a.due
 

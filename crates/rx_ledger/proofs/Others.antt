@@ -14,18 +14,18 @@ use Rattle.rx_rules.specs.declared.tasks.Task.{Task}
 use Rattle.rx_rules.specs.declared.tasks.Scope.{Scope}
 use Rattle.rx_rules.specs.Reached.{ends}
 use Rattle.rx_rules.proofs.Lookups.{number-of}
-use Rattle.rx_sound.specs.Sound.{Each, TasksFall, Sound}
-use Rattle.rx_sound.specs.Chains.{meets}
-use Rattle.rx_sound.proofs.Blows.{hit_under, hit_place}
-use Rattle.rx_sound.proofs.Waiting.{hit_waits}
-use Rattle.rx_sound.proofs.Changes.{each_found, each_more}
-use Rattle.rx_sound.proofs.Releasing.{leaves, each_none, none_is_not, on_meets}
-use Rattle.rx_sound.proofs.Below.{own_free, one_opener}
-use Rattle.rx_sound.proofs.Owning.{kept}
-use Rattle.rx_sound.proofs.Reach.{task_below, fits_of}
-use Rattle.rx_sound.proofs.Reached.{sound}
-use Rattle.rx_sound.proofs.Stay.{find_change, find_filter}
-use Rattle.rx_sound.proofs.Staying.{find_unfiltered}
+use Rattle.rx_tree_laws.specs.Sound.{Each, TasksFall, Sound}
+use Rattle.rx_tree_laws.specs.Chains.{meets}
+use Rattle.rx_tree_laws.proofs.Blows.{hit_under, hit_place}
+use Rattle.rx_tree_laws.proofs.Waiting.{hit_waits}
+use Rattle.rx_tree_laws.proofs.Changes.{each_found, each_more}
+use Rattle.rx_tree_laws.proofs.Releasing.{leaves, each_none, none_is_not, on_meets}
+use Rattle.rx_tree_laws.proofs.Below.{own_free, one_opener}
+use Rattle.rx_tree_laws.proofs.Owning.{kept}
+use Rattle.rx_tree_laws.proofs.Reach.{task_below, fits_of}
+use Rattle.rx_tree_laws.proofs.Reached.{sound}
+use Rattle.rx_tree_laws.proofs.Stay.{find_change, find_filter}
+use Rattle.rx_tree_laws.proofs.Staying.{find_unfiltered}
 use Rattle.rx_runs.proofs.Endings.{struck_if}
 use Rattle.rx_finish.specs.Callers.{gone_of}
 use Rattle.rx_ledger.specs.Staying.{NotBy}

@@ -15,10 +15,10 @@ use Rattle.rx_rules.specs.declared.tasks.Kind.TheVariants.{Finish}
 use Rattle.rx_rules.specs.declared.tasks.Blow.{Blow}
 use Rattle.rx_rules.specs.declared.tasks.Task.{Task}
 use Rattle.rx_rules.specs.declared.tasks.Scope.{Scope}
-use Rattle.rx_sound.proofs.Reach.{task_below}
-use Rattle.rx_sound.proofs.Reached.{sound}
-use Rattle.rx_sound.proofs.Histories.{reached_now, dead-now, none_yet}
-use Rattle.rx_sound.proofs.Owning.{release_pops}
+use Rattle.rx_tree_laws.proofs.Reach.{task_below}
+use Rattle.rx_tree_laws.proofs.Reached.{sound}
+use Rattle.rx_tree_laws.proofs.Histories.{reached_now, dead-now, none_yet}
+use Rattle.rx_tree_laws.proofs.Owning.{release_pops}
 use Rattle.rx_ledger.specs.Owned.{Owned, sort_of, own_after, own_from, own_told, owned, OwnedAsTold, MayWaitNext, MayEndNext, NumbersAreLeft}
 use Rattle.rx_runs.proofs.Endings.{root_empties}
 use Rattle.rx_chronicle.proofs.Linking.{find-hit, Link, link, links, links_faulted, none_opened}

@@ -3,8 +3,8 @@ use Rattle.std.proofs.Common.{◌≡◌, ℕ, suc, List, [], ◌∷◌, Option, 
 use Rattle.rx_rules.proofs.Common.{PlaceId, TaskId, ScopeId, Tree, inner, own_scope, strike, hit, widened, fold_from}
 use Rattle.rx_rules.specs.declared.tasks.Task.{Task}
 use Rattle.rx_rules.specs.declared.tasks.Blow.{Blow}
-use Rattle.rx_sound.proofs.Blows.{hit_number, hit_under, hit_place}
-use Rattle.rx_sound.proofs.Waiting.{hit_waits}
+use Rattle.rx_tree_laws.proofs.Blows.{hit_number, hit_under, hit_place}
+use Rattle.rx_tree_laws.proofs.Waiting.{hit_waits}
 use Rattle.rx_chronicle.proofs.Linking.{find-hit}
 use Rattle.rx_finish.specs.declared.ledger.Caller.{Caller}
 use Rattle.rx_finish.specs.Callers.{MayAsk, MayAskTo, IsMoving, Travels, HasFinish, WaitsInside, IsBare, does_travel}

@@ -7,12 +7,12 @@ use Rattle.rx_rules.specs.declared.tasks.Kind.TheVariants.{Finish}
 use Rattle.rx_rules.specs.declared.entries.Entry.{Entry}
 use Rattle.rx_finish.specs.declared.ledger.Caller.{Caller}
 use Rattle.rx_finish.specs.Callers.{MayAskMoving, MayAskWait, MayAskEnd}
-use Rattle.rx_sound.specs.Held.{is_held}
-use Rattle.rx_sound.specs.Spine.{Spine}
-use Rattle.rx_sound.specs.TermSteps.{Targets}
-use Rattle.rx_sound.proofs.Granting.{not_held, release_held}
-use Rattle.rx_sound.proofs.SpineGrants.{GrantsSpine, spine-grant, EmptyWhereDone, spine-done}
-use Rattle.rx_sound.proofs.Targets.{targets-exist}
+use Rattle.rx_tree_laws.specs.Held.{is_held}
+use Rattle.rx_tree_laws.specs.Spine.{Spine}
+use Rattle.rx_tree_laws.specs.TermSteps.{Targets}
+use Rattle.rx_tree_laws.proofs.Granting.{not_held, release_held}
+use Rattle.rx_tree_laws.proofs.SpineGrants.{GrantsSpine, spine-grant, EmptyWhereDone, spine-done}
+use Rattle.rx_tree_laws.proofs.Targets.{targets-exist}
 use Rattle.rx_ledger.specs.Owned.{Owned, own_told}
 use Rattle.rx_ledger.specs.TermAsks.{kinds_told, Serves, MayAskNext, LawOfAsking}
 use Rattle.rx_ledger.proofs.OwnTold.{may_wait_next, may_end_next}

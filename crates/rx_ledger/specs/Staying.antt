@@ -8,7 +8,7 @@ use Rattle.rx_rules.specs.Entries.{Allowed, made}
 use Rattle.rx_rules.specs.Fold.{tree_of}
 use Rattle.rx_rules.specs.Reached.{Reached}
 use Rattle.rx_rules.specs.Run.{Given, Folds}
-use Rattle.rx_sound.specs.Sound.{Each}
+use Rattle.rx_tree_laws.specs.Sound.{Each}
 use Rattle.rx_finish.specs.Callers.{HasNumbers}
 use Rattle.rx_ticket.specs.declared.tickets.AnyTicket.{AnyTicket}
 use Rattle.rx_ticket.specs.declared.tickets.AnyTicket.TheVariants.{Moving, Running, Held, Host}

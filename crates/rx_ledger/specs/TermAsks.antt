@@ -13,8 +13,8 @@ use Rattle.rx_rules.specs.Fold.{tree_of}
 use Rattle.rx_rules.specs.Run.{Given, Folds}
 use Rattle.rx_finish.specs.declared.ledger.Caller.{Caller}
 use Rattle.rx_finish.specs.Callers.{MayAskMoving, MayAskTo, MayAskArrive, MayAskWait, MayAskRelease, MayAskEnd}
-use Rattle.rx_sound.specs.Held.{is_held}
-use Rattle.rx_sound.specs.Spine.{Spine}
+use Rattle.rx_tree_laws.specs.Held.{is_held}
+use Rattle.rx_tree_laws.specs.Spine.{Spine}
 use Rattle.rx_ledger.specs.Owned.{own_told}
 
 -- the kinds of the scopes that a task has opened and not released, as its entries tell them, the outermost first

@@ -1,7 +1,7 @@
 // A request where no death and no join is due.
 ghost use Rattle.std.specs.Prelude.{◌≡◌, Some};
 ghost use Rattle.rx_ticket.specs.declared.tickets.AnyTicket.TheVariants.{Moving, Running, Held, Host};
-ghost use Rattle.rx_chronicle.specs.Requests.{tree_told, IsReady};
+ghost use Rattle.rx_chronicle.specs.Requests.{tree_told, MayAskEntry};
 ghost use Rattle.rx_ledger.specs.Asking.{MayApply, IsTravelling, IsRunning, IsHeld, HasPath};
 ghost use Rattle.rx_ledger.specs.Inside.Doing.{DidRequest};
 
@@ -18,7 +18,7 @@ use rx_ticket::{AnyTicket, InTransit, Live, Ticket, Waiting};
 
 /// Answers a request.
 pub(crate) fn answer<L: FinishLedger>(chronicle: &mut Chronicle<L>, request: Request) -> Reply
-    requires ready { IsReady chronicle.old }
+    requires ready { MayAskEntry chronicle.old }
     requires asks { MayApply (tree_told chronicle.old) request }
     ensures { DidRequest chronicle.old request result chronicle.new }
 {

@@ -1,6 +1,6 @@
 // The deaths and the joins that are due.
 ghost use Rattle.std.specs.Prelude.{◌≡◌, ◌<◌, ◌-◌, ◌^◌, length, IfOk, OnOk};
-ghost use Rattle.rx_chronicle.specs.Requests.{IsReady};
+ghost use Rattle.rx_chronicle.specs.Requests.{MayAskEntry};
 ghost use Rattle.rx_ledger.specs.Inside.Doing.{MadeDue};
 
 use rx_base::NoMemory;
@@ -13,7 +13,7 @@ pub(crate) fn make_due<L: FinishLedger>(chronicle: &mut Chronicle<L>) -> Result<
     ensures made { MadeDue chronicle.old chronicle.new }
     ensures few { length chronicle.new.entries < 2 ^ 32 }
     ensures number { IfOk result (λ n. (n ≡ length chronicle.new.entries) × (n < 2 ^ 32 - 1)) }
-    ensures ready { OnOk result (IsReady chronicle.new) }
+    ensures ready { OnOk result (MayAskEntry chronicle.new) }
 {
     loop {
         let at = chronicle.room()?;

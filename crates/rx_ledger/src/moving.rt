@@ -3,7 +3,7 @@ ghost use Rattle.std.specs.Prelude.{Some, None};
 ghost use Rattle.rx_finish.specs.Callers.{MayAskMoving, MayAskArrive};
 ghost use Rattle.rx_ticket.specs.declared.tickets.AnyTicket.TheVariants.{Running, Moving};
 ghost use Rattle.rx_history.specs.declared.asks.Ask.TheVariants.{Arrive, Print, Census};
-ghost use Rattle.rx_chronicle.specs.Requests.{tree_told, IsReady};
+ghost use Rattle.rx_chronicle.specs.Requests.{tree_told, MayAskEntry};
 ghost use Rattle.rx_ledger.specs.Inside.Doing.{request_of, DidRequest};
 
 use crate::asks::Reply;
@@ -20,7 +20,7 @@ pub(crate) fn arrive<L: FinishLedger>(
     ticket: Ticket<InTransit>,
     mut batch: Batch,
 ) -> Reply
-    requires ready { IsReady chronicle.old }
+    requires ready { MayAskEntry chronicle.old }
     requires asks { MayAskArrive (tree_told chronicle.old) ticket }
     ensures { DidRequest chronicle.old (request_of (Moving ticket) Arrive batch None) result chronicle.new }
 {
@@ -40,7 +40,7 @@ pub(crate) fn print<L: FinishLedger>(
     mut batch: Batch,
     mut path: Path,
 ) -> Reply
-    requires ready { IsReady chronicle.old }
+    requires ready { MayAskEntry chronicle.old }
     requires asks { MayAskMoving (tree_told chronicle.old) ticket }
     ensures { DidRequest chronicle.old (request_of (Running ticket) (Print value) batch (Some path)) result chronicle.new }
 {
@@ -60,7 +60,7 @@ pub(crate) fn census<L: FinishLedger>(
     mut batch: Batch,
     mut path: Path,
 ) -> Reply
-    requires ready { IsReady chronicle.old }
+    requires ready { MayAskEntry chronicle.old }
     requires asks { MayAskMoving (tree_told chronicle.old) ticket }
     ensures { DidRequest chronicle.old (request_of (Running ticket) Census batch (Some path)) result chronicle.new }
 {

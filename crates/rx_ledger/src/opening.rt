@@ -3,7 +3,7 @@ ghost use Rattle.std.specs.Prelude.{Some};
 ghost use Rattle.rx_finish.specs.Callers.{MayAskMoving, MayAskTo};
 ghost use Rattle.rx_ticket.specs.declared.tickets.AnyTicket.TheVariants.{Running};
 ghost use Rattle.rx_history.specs.declared.asks.Ask.TheVariants.{Open, At, Spawn};
-ghost use Rattle.rx_chronicle.specs.Requests.{tree_told, IsReady};
+ghost use Rattle.rx_chronicle.specs.Requests.{tree_told, MayAskEntry};
 ghost use Rattle.rx_ledger.specs.Inside.Doing.{request_of, DidRequest};
 
 use crate::asks::Reply;
@@ -22,7 +22,7 @@ pub(crate) fn open<L: FinishLedger>(
     mut batch: Batch,
     mut path: Path,
 ) -> Reply
-    requires ready { IsReady chronicle.old }
+    requires ready { MayAskEntry chronicle.old }
     requires asks { MayAskMoving (tree_told chronicle.old) ticket }
     ensures { DidRequest chronicle.old (request_of (Running ticket) Open batch (Some path)) result chronicle.new }
 {
@@ -46,7 +46,7 @@ pub(crate) fn call<L: FinishLedger>(
     mut batch: Batch,
     mut path: Path,
 ) -> Reply
-    requires ready { IsReady chronicle.old }
+    requires ready { MayAskEntry chronicle.old }
     requires asks { MayAskTo (tree_told chronicle.old) ticket to }
     ensures { DidRequest chronicle.old (request_of (Running ticket) (At to) batch (Some path)) result chronicle.new }
 {
@@ -72,7 +72,7 @@ pub(crate) fn spawn<L: FinishLedger>(
     mut batch: Batch,
     mut path: Path,
 ) -> Reply
-    requires ready { IsReady chronicle.old }
+    requires ready { MayAskEntry chronicle.old }
     requires asks { MayAskTo (tree_told chronicle.old) ticket to }
     ensures { DidRequest chronicle.old (request_of (Running ticket) (Spawn to) batch (Some path)) result chronicle.new }
 {

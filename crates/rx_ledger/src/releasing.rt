@@ -3,7 +3,7 @@ ghost use Rattle.std.specs.Prelude.{None};
 ghost use Rattle.rx_finish.specs.Callers.{MayAskRelease};
 ghost use Rattle.rx_ticket.specs.declared.tickets.AnyTicket.TheVariants.{Held, Host};
 ghost use Rattle.rx_history.specs.declared.asks.Ask.TheVariants.{Release, Root};
-ghost use Rattle.rx_chronicle.specs.Requests.{tree_told, IsReady};
+ghost use Rattle.rx_chronicle.specs.Requests.{tree_told, MayAskEntry};
 ghost use Rattle.rx_ledger.specs.Inside.Doing.{request_of, DidRequest};
 
 use crate::asks::Reply;
@@ -20,7 +20,7 @@ pub(crate) fn release<L: FinishLedger>(
     ticket: Ticket<Waiting>,
     mut batch: Batch,
 ) -> Reply
-    requires ready { IsReady chronicle.old }
+    requires ready { MayAskEntry chronicle.old }
     requires asks { MayAskRelease (tree_told chronicle.old) ticket }
     ensures { DidRequest chronicle.old (request_of (Held ticket) Release batch None) result chronicle.new }
 {
@@ -37,7 +37,7 @@ pub(crate) fn release<L: FinishLedger>(
 
 /// The host's release of the root. After it, it is done again with no effect.
 pub(crate) fn root<L: FinishLedger>(chronicle: &mut Chronicle<L>, batch: Batch) -> Reply
-    requires ready { IsReady chronicle.old }
+    requires ready { MayAskEntry chronicle.old }
     ensures { DidRequest chronicle.old (request_of Host Root batch None) result chronicle.new }
 {
     match chronicle.root() {

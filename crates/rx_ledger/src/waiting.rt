@@ -3,7 +3,7 @@ ghost use Rattle.std.specs.Prelude.{None};
 ghost use Rattle.rx_finish.specs.Callers.{MayAskWait, MayAskEnd};
 ghost use Rattle.rx_ticket.specs.declared.tickets.AnyTicket.TheVariants.{Running};
 ghost use Rattle.rx_history.specs.declared.asks.Ask.TheVariants.{Wait, End};
-ghost use Rattle.rx_chronicle.specs.Requests.{tree_told, IsReady};
+ghost use Rattle.rx_chronicle.specs.Requests.{tree_told, MayAskEntry};
 ghost use Rattle.rx_ledger.specs.Inside.Doing.{request_of, DidRequest};
 
 use crate::asks::Reply;
@@ -21,7 +21,7 @@ pub(crate) fn wait<L: FinishLedger>(
     thrown: Faults,
     mut batch: Batch,
 ) -> Reply
-    requires ready { IsReady chronicle.old }
+    requires ready { MayAskEntry chronicle.old }
     requires asks { MayAskWait (tree_told chronicle.old) ticket }
     ensures { DidRequest chronicle.old (request_of (Running ticket) (Wait thrown) batch None) result chronicle.new }
 {
@@ -43,7 +43,7 @@ pub(crate) fn end<L: FinishLedger>(
     thrown: Faults,
     mut batch: Batch,
 ) -> Reply
-    requires ready { IsReady chronicle.old }
+    requires ready { MayAskEntry chronicle.old }
     requires asks { MayAskEnd (tree_told chronicle.old) ticket }
     ensures { DidRequest chronicle.old (request_of (Running ticket) (End thrown) batch None) result chronicle.new }
 {

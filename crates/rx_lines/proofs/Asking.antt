@@ -8,7 +8,7 @@ use Rattle.rx_rules.specs.declared.entries.Act.TheVariants.{Release as ReleaseAc
 use Rattle.rx_rules.specs.declared.entries.Entry.{Entry}
 use Rattle.rx_rules.specs.declared.entries.Entry.TheVariants.{Root as RootEntry}
 use Rattle.rx_rules.proofs.Lookups.{number-of}
-use Rattle.rx_sound.proofs.Enabling.{inner_is}
+use Rattle.rx_tree_laws.proofs.Enabling.{inner_is}
 use Rattle.rx_finish.specs.Callers.{HasRoot}
 use Rattle.rx_finish.specs.declared.ledger.Outcome.{Outcome}
 use Rattle.rx_coordinator.specs.declared.requests.Request.{Request}
@@ -19,7 +19,7 @@ use Rattle.rx_coordinator.specs.declared.waiters.Waiter.{Waiter}
 use Rattle.rx_coordinator.specs.declared.waiters.Waiter.TheVariants.{Task as TaskWaits, Root as Host}
 use Rattle.rx_coordinator.specs.Telling.{seat_of}
 use Rattle.rx_coordinator.specs.Stands.{Told, Awaits, May, Busy}
-use Rattle.rx_coordinator.specs.Parking.{WaitsThere, scope_numbered, request_of, answer_to}
+use Rattle.rx_coordinator.specs.Parking.{WaiterIsThere, scope_numbered, request_of, answer_to}
 use Rattle.rx_coordinator.proofs.Telling.{told_some}
 use Rattle.rx_lines.proofs.OneEntry.{none_sent}
 
@@ -87,7 +87,7 @@ module _ (T : Tree) where
 
   -- the scope of a row whose release is told is quiet
   pub row_still : (n : ℕ) (who : Waiter) (o : Outcome) (e : Entry) → Told T (request_of who) (answer_to who o) e → Allowed T e
-      → WaitsThere T n who → quiet T (scope_numbered n) ≡ true
+      → WaiterIsThere T n who → quiet T (scope_numbered n) ≡ true
   row_still n (TaskWaits t) o e h k at =
       let a = release_may t (Released o) e h k in
       let row = at.1 (seat_of T a.task) (told_some T t a.task (seat_of T a.task) a.stands a.unstruck refl) in

@@ -10,9 +10,9 @@ use Rattle.rx_rules.specs.declared.entries.Act.{Act}
 use Rattle.rx_rules.specs.declared.entries.Act.TheVariants.{Open, At as Calls, Spawn, Arrive, Wait, Release, End, Print, Census}
 use Rattle.rx_rules.specs.declared.entries.Entry.{Entry}
 use Rattle.rx_rules.specs.declared.entries.Entry.TheVariants.{Step, Root as RootEntry, Death, Join}
-use Rattle.rx_sound.specs.Chains.{meets}
-use Rattle.rx_sound.proofs.Reached.{sound}
-use Rattle.rx_sound.proofs.Reach.{fits_of}
+use Rattle.rx_tree_laws.specs.Chains.{meets}
+use Rattle.rx_tree_laws.proofs.Reached.{sound}
+use Rattle.rx_tree_laws.proofs.Reach.{fits_of}
 use Rattle.rx_finish.specs.Callers.{HasRoot}
 use Rattle.rx_coordinator.specs.declared.seats.Seat.{Seat}
 use Rattle.rx_coordinator.specs.declared.waiters.Waiter.{Waiter}
@@ -20,7 +20,7 @@ use Rattle.rx_coordinator.specs.declared.waiters.Waiter.TheVariants.{Task as Tas
 use Rattle.rx_coordinator.specs.Seats.{unhit}
 use Rattle.rx_coordinator.specs.Telling.{seat_of, seat_told}
 use Rattle.rx_coordinator.specs.Stands.{May}
-use Rattle.rx_coordinator.specs.Parking.{WaitsThere, IsThere, request_of}
+use Rattle.rx_coordinator.specs.Parking.{WaiterIsThere, IsThere, request_of}
 use Rattle.rx_coordinator.proofs.Telling.{Starts, others_told, told_some, dies_told, joins_told}
 use Rattle.rx_coordinator.proofs.Newcomers.{root_told}
 use Rattle.rx_coordinator.proofs.Asking.{seated}
@@ -103,7 +103,7 @@ back_on T V W grows h k =
     record { task = λ u low there. h.task u low (k.task u (omega (arith, grows, low)) there); root = λ there. h.root (k.root there) }
 
 -- so is who waits
-pub may_back : (T V : Tree) → Back T V → (n : ℕ) (who : Waiter) → WaitsThere T n who → May V (request_of who)
+pub may_back : (T V : Tree) → Back T V → (n : ℕ) (who : Waiter) → WaiterIsThere T n who → May V (request_of who)
     → May T (request_of who)
 may_back T V back n (TaskWaits t) at may =
     let there = back.task t at.0 (seat_of V may.task, told_some V t may.task (seat_of V may.task) may.stands may.unstruck refl) in

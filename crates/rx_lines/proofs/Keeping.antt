@@ -7,7 +7,7 @@ use Rattle.rx_rules.specs.declared.entries.Act.{Act}
 use Rattle.rx_rules.specs.declared.entries.Act.TheVariants.{Spawn as SpawnAct, Release as ReleaseAct}
 use Rattle.rx_rules.specs.declared.entries.Entry.{Entry}
 use Rattle.rx_rules.specs.declared.entries.Entry.TheVariants.{Step, Root as RootEntry}
-use Rattle.rx_sound.proofs.Histories.{reached_now, dead-now}
+use Rattle.rx_tree_laws.proofs.Histories.{reached_now, dead-now}
 use Rattle.rx_finish.specs.declared.ledger.Outcome.{Outcome}
 use Rattle.rx_coordinator.specs.declared.requests.Request.{Request}
 use Rattle.rx_coordinator.specs.declared.requests.Request.TheVariants.{Release, Root}
@@ -17,8 +17,8 @@ use Rattle.rx_coordinator.specs.declared.waiters.Waiter.TheVariants.{Task as Tas
 use Rattle.rx_coordinator.specs.declared.waiters.Waiters.{Waiters}
 use Rattle.rx_coordinator.specs.Telling.{seat_of, seat_told}
 use Rattle.rx_coordinator.specs.Waiters.{waiter_at}
-use Rattle.rx_coordinator.specs.Stands.{Asked, Told, May}
-use Rattle.rx_coordinator.specs.Parking.{WaitsThere, PassedBy, FreedFrom, waiter_of, request_of, answer_to}
+use Rattle.rx_coordinator.specs.Stands.{IsReplyTo, Told, May}
+use Rattle.rx_coordinator.specs.Parking.{WaiterIsThere, PassedBy, FreedFrom, waiter_of, request_of, answer_to}
 use Rattle.rx_coordinator.specs.Inside.Walks.{IsSame}
 use Rattle.rx_coordinator.proofs.Telling.{others_told, told_some}
 use Rattle.rx_coordinator.proofs.Newcomers.{root_told}
@@ -32,7 +32,7 @@ use Rattle.rx_lines.proofs.Viewing.View.{refused, short, parked, tells, sends}
 
 -- whoever waits does so where the tree says
 abbrev pub There : Tree → Waiters → Type 0
-There T ws = (k : ℕ) (who : Waiter) → waiter_at ws k ≡ Some who → WaitsThere T k who
+There T ws = (k : ℕ) (who : Waiter) → waiter_at ws k ≡ Some who → WaiterIsThere T k who
 
 -- a tree that can be reached by so many entries, and those who wait in it
 pub record Fine (T : Tree) (n : ℕ) (ws : Waiters) : Type 0 where
@@ -101,19 +101,19 @@ module _ (T V : Tree) (n m : ℕ) (ws us : Waiters) (f : Fine T n ws) (q : Reque
 -- Rows after two answers.
 
 -- who asks for a release waits at one scope
-one-row : (T : Tree) (q : Request) (who : Waiter) (k l : ℕ) → waiter_of q ≡ Some who → May T q → WaitsThere T k who
-    → WaitsThere T l who → k ≡ l
+one-row : (T : Tree) (q : Request) (who : Waiter) (k l : ℕ) → waiter_of q ≡ Some who → May T q → WaiterIsThere T k who
+    → WaiterIsThere T l who → k ≡ l
 one-row T (Release t) who k l is may at to = by who (item_one (Some (TaskWaits t)) who (TaskWaits t) is refl) at to where
-  by : (z : Waiter) → z ≡ TaskWaits t → WaitsThere T k z → WaitsThere T l z → k ≡ l
+  by : (z : Waiter) → z ≡ TaskWaits t → WaiterIsThere T k z → WaiterIsThere T l z → k ≡ l
   by z e x y =
       let told : seat_told T t ≡ Some (seat_of T may.task) = told_some T t may.task (seat_of T may.task) may.stands may.unstruck refl in
-      let here : WaitsThere T k (TaskWaits t) = subst (WaitsThere T k) e x in
-      let there : WaitsThere T l (TaskWaits t) = subst (WaitsThere T l) e y in
+      let here : WaiterIsThere T k (TaskWaits t) = subst (WaiterIsThere T k) e x in
+      let there : WaiterIsThere T l (TaskWaits t) = subst (WaiterIsThere T l) e y in
       sym (here.1 (seat_of T may.task) told).1 ∙ (there.1 (seat_of T may.task) told).1
 one-row T Root who k l is may at to =
     let e : who ≡ Host = item_one (Some Host) who Host is refl in
-    let here : k ≡ 0 = subst (WaitsThere T k) e at in
-    let there : l ≡ 0 = subst (WaitsThere T l) e to in
+    let here : k ≡ 0 = subst (WaiterIsThere T k) e at in
+    let there : l ≡ 0 = subst (WaiterIsThere T l) e to in
     here ∙ sym there
 one-row T _ who k l is may at to = absurd (let v : ⊥ = cc in v)
 
@@ -164,7 +164,7 @@ abbrev Makes : ℕ → List Entry → Waiter → Outcome → List Entry → Type
 Makes p es who o fs =
     (e : Entry) × Told (tree_of p es) (request_of who) (answer_to who o) e × Allowed (tree_of p es) e × IsMade (tree_of p es) (length es) e (tree_of p fs) (length fs)
 
-makes : (p : ℕ) (es fs : List Entry) (who : Waiter) (o : Outcome) → Asked p es (request_of who) (answer_to who o) (Are fs)
+makes : (p : ℕ) (es fs : List Entry) (who : Waiter) (o : Outcome) → IsReplyTo p es (request_of who) (answer_to who o) (Are fs)
     → Makes p es who o fs
 makes p es fs (TaskWaits t) o k = (k.0, k.1, k.2, grows p es fs k.0 k.3)
 makes p es fs Host o k = (k.0, k.1, k.2, grows p es fs k.0 k.3)
@@ -246,22 +246,22 @@ module _ (T : Tree) (n : ℕ) (ws : Waiters) (f : Fine T n ws) (who : Waiter) (o
 
   -- who waits there waits there still
   stays : (z : Waiter) → who ≡ z → Told T (request_of z) (answer_to z o) x.entry → (k : ℕ) (y : Waiter) → (k ≡ x.row → ⊥)
-      → waiter_at ws k ≡ Some y → WaitsThere (made n T x.entry) k y
+      → waiter_at ws k ≡ Some y → WaiterIsThere (made n T x.entry) k y
   stays z is told k Host apart i = f.there k Host i
   stays (TaskWaits t) is told k (TaskWaits u) apart i =
       let act : Act = ReleaseAct told.0 o.lost o.masked o.thrown in
       let may : AllowedAct T t act = subst (Allowed T) told.1 x.may in
       let seat : seat_told T t ≡ Some (seat_of T may.task) = told_some T t may.task (seat_of T may.task) may.stands may.unstruck refl in
-      let at : WaitsThere T x.row (TaskWaits t) = subst (WaitsThere T x.row) is (f.there x.row who x.here) in
+      let at : WaiterIsThere T x.row (TaskWaits t) = subst (WaiterIsThere T x.row) is (f.there x.row who x.here) in
       let mine = (at.1 (seat_of T may.task) seat).1 in
-      let there : WaitsThere T k (TaskWaits u) = f.there k (TaskWaits u) i in
+      let there : WaiterIsThere T k (TaskWaits u) = f.there k (TaskWaits u) i in
       let other : (u.0 ≡ t.0 → ⊥) = λ e. apart (sym (there.1 (seat_of T may.task) (ap (λ (v : TaskId). seat_told T v) (task-is u t e) ∙ seat)).1 ∙ mine) in
-      subst (λ (e : Entry). WaitsThere (made n T e) k (TaskWaits u)) (sym told.1)
+      subst (λ (e : Entry). WaiterIsThere (made n T e) k (TaskWaits u)) (sym told.1)
       (there.0, λ w e. there.1 w (sym (others_told T f.reached t u other act may tt) ∙ e))
   stays Host is told k (TaskWaits u) apart i =
-      let there : WaitsThere T k (TaskWaits u) = f.there k (TaskWaits u) i in
+      let there : WaiterIsThere T k (TaskWaits u) = f.there k (TaskWaits u) i in
       let may : Allowed T (RootEntry o.lost o.masked o.thrown) = subst (Allowed T) told x.may in
-      subst (λ (e : Entry). WaitsThere (made n T e) k (TaskWaits u)) (sym told)
+      subst (λ (e : Entry). WaiterIsThere (made n T e) k (TaskWaits u)) (sym told)
       (there.0, λ w e. there.1 w (sym (root_told T f.reached may.2.is_quiet u) ∙ e))
 
   pub fine_freed : Fine V m us
@@ -272,7 +272,7 @@ module _ (T : Tree) (n : ℕ) (ws : Waiters) (f : Fine T n ws) (who : Waiter) (o
         older = r.1;
         there = λ k z i.
             let old = row-before k z i in
-            subst (λ (U : Tree). WaitsThere U k z) (sym x.is.0) (stays who refl x.told k z old.0 old.1);
+            subst (λ (U : Tree). WaiterIsThere U k z) (sym x.is.0) (stays who refl x.told k z old.0 old.1);
       }
 
 -- what two releases of one name

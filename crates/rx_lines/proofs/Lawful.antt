@@ -10,10 +10,10 @@ use Rattle.rx_coordinator.specs.declared.requests.Answer.{Answer}
 use Rattle.rx_coordinator.specs.declared.requests.Answer.TheVariants.{Bad, Full, NoMemory, NotYet, Sent}
 use Rattle.rx_coordinator.specs.declared.waiters.Waiter.{Waiter}
 use Rattle.rx_coordinator.specs.declared.waiters.Waiters.{Waiters}
-use Rattle.rx_coordinator.specs.Stands.{Asked, Landing}
+use Rattle.rx_coordinator.specs.Stands.{IsReplyTo, Landing}
 use Rattle.rx_coordinator.specs.Parking.{AskedBeside, request_of, answer_to}
-use Rattle.rx_lines.specs.Session.{Between, Are, FreesEach, Rests, Answered, AllAnswered, IsSession}
-use Rattle.rx_lines.specs.Session.Answered.{malformed, unread, replied}
+use Rattle.rx_lines.specs.Session.{Between, Are, FreesEach, Rests, LineAnswered, AllAnswered, IsSession}
+use Rattle.rx_lines.specs.Session.LineAnswered.{malformed, unread, replied}
 
 module _ (p : ℕ) where
   abbrev Lawful : List Entry → Type 0
@@ -26,7 +26,7 @@ module _ (p : ℕ) where
   landed es fs t h (inl k) = same (es ++ k.0 ∷ []) fs k.3 (allowed-push 0 (opening p) es k.0 h k.2)
   landed es fs t h (inr k) = same es fs k.1 h
 
-  asked : (es fs : List Entry) (q : Request) (a : Answer) → Lawful es → Asked p es q a (Are fs) → Lawful fs
+  asked : (es fs : List Entry) (q : Request) (a : Answer) → Lawful es → IsReplyTo p es q a (Are fs) → Lawful fs
   asked es fs q Bad h k = same es fs k.1 h
   asked es fs q Full h k = same es fs k.2 h
   asked es fs q NoMemory h k = same es fs k.1 h
@@ -46,7 +46,7 @@ module _ (p : ℕ) where
   rested b c h (inl k) = same b.entries c.entries k.0.0 h
   rested b c h (inr k) = same b.entries c.entries k.0.0 h
 
-  answered : (b : Between) (line text : List ℕ) (c : Between) → Lawful b.entries → Answered p b line text c → Lawful c.entries
+  answered : (b : Between) (line text : List ℕ) (c : Between) → Lawful b.entries → LineAnswered p b line text c → Lawful c.entries
   answered b line text c h (malformed none is e) = subst (λ (z : Between). Lawful z.entries) (sym e) h
   answered b line text c h (unread is e) = subst (λ (z : Between). Lawful z.entries) (sym e) h
   answered b line text c h (replied q a m xs is k r t) =

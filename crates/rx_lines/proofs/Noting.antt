@@ -25,8 +25,8 @@ use Rattle.rx_coordinator.specs.declared.waiters.Waiter.TheVariants.{Task as Tas
 use Rattle.rx_coordinator.specs.declared.waiters.Waiters.{Waiters}
 use Rattle.rx_coordinator.specs.Seats.{new_seat}
 use Rattle.rx_coordinator.specs.Telling.{seat_of, seat_told}
-use Rattle.rx_coordinator.specs.Stands.{Told, Asked, Landing, May}
-use Rattle.rx_coordinator.specs.Parking.{AskedBeside, WaitsThere, request_of, answer_to}
+use Rattle.rx_coordinator.specs.Stands.{Told, IsReplyTo, Landing, May}
+use Rattle.rx_coordinator.specs.Parking.{AskedBeside, WaiterIsThere, request_of, answer_to}
 use Rattle.rx_coordinator.proofs.Telling.{told_some}
 use Rattle.rx_coordinator.proofs.Asking.{seated}
 use Rattle.rx_coordinator.proofs.Newcomers.{child_spawn}
@@ -232,7 +232,7 @@ module _ (p : ℕ) (es : List Entry) (t : TaskId) (to : PlaceId) (b : Born) (e :
     off false j = absurd (k.0 (may-land j))
 
 -- the entries after an answer
-pub asked-made : (p : ℕ) (es : List Entry) (q : Request) (a : Answer) (fs : List Entry) → Reached (tree_of p es) → Asked p es q a (Are fs) → fs ≡ es ++ entries_of (note_of (seat_told (tree_of p es) (asker q)) q) a
+pub asked-made : (p : ℕ) (es : List Entry) (q : Request) (a : Answer) (fs : List Entry) → Reached (tree_of p es) → IsReplyTo p es q a (Are fs) → fs ≡ es ++ entries_of (note_of (seat_told (tree_of p es) (asker q)) q) a
 asked-made p es q Bad fs r k = sym k.1 ∙ sym (append-nil es)
 asked-made p es q Full fs r k = sym k.2 ∙ sym (append-nil es)
 asked-made p es q NoMemory fs r k = sym k.1 ∙ sym (append-nil es)
@@ -245,7 +245,7 @@ beside-made p es q ws us a fs r (inl k) = sym k.2 ∙ (sym (append-nil es) ∙ a
 beside-made p es q ws us a fs r (inr k) = asked-made p es q a fs r k.1
 
 -- the entry of a release that has waited
-pub freed-made : (p : ℕ) (es : List Entry) (s : ScopeId) (who : Waiter) (o : Outcome) (fs : List Entry) → WaitsThere (tree_of p es) s.0 who → Asked p es (request_of who) (answer_to who o) (Are fs) → fs ≡ es ++ freed_entry s who o ∷ []
+pub freed-made : (p : ℕ) (es : List Entry) (s : ScopeId) (who : Waiter) (o : Outcome) (fs : List Entry) → WaiterIsThere (tree_of p es) s.0 who → IsReplyTo p es (request_of who) (answer_to who o) (Are fs) → fs ≡ es ++ freed_entry s who o ∷ []
 freed-made p es s (TaskWaits t) o fs there k =
     let may : AllowedAct (tree_of p es) t (ReleaseAct k.1.0 o.lost o.masked o.thrown) = subst (Allowed (tree_of p es)) k.1.1 k.2 in
     let told = row (tree_of p es) t may.task may.stands may.unstruck in

@@ -1,9 +1,9 @@
 -- Two sessions with one input, for whose lines the same ran out, tell the same.
 use Rattle.std.proofs.Common.{◌⊎◌, cond, All, codes, ◌≡◌, ℕ, ◌+◌, ◌≤◌, Bool, true, false, List, [], ◌∷◌, ◌++◌, length, Some, None, refl, ap, sym, ◌∙◌, subst, arith, inl, inr, append-nil}
 use Rattle.std.proofs.lemmas.Bool.{true≢false, or_parts}
-use Rattle.rx_rules.specs.declared.entries.Entry.{Entry}
 use Rattle.rx_rules.proofs.Common.{Tree, tree_of, Reached, IsOlder, opens}
-use Rattle.rx_sound.proofs.Histories.{none_yet}
+use Rattle.rx_rules.specs.declared.entries.Entry.{Entry}
+use Rattle.rx_tree_laws.proofs.Histories.{none_yet}
 use Rattle.rx_finish.specs.declared.ledger.Outcome.{Outcome}
 use Rattle.rx_coordinator.specs.declared.requests.Request.{Request}
 use Rattle.rx_coordinator.specs.declared.requests.Answer.{Answer}
@@ -12,8 +12,8 @@ use Rattle.rx_coordinator.specs.declared.waiters.Waiter.{Waiter}
 use Rattle.rx_coordinator.specs.Waiters.{waiter_at}
 use Rattle.rx_coordinator.specs.Inside.Walks.{IsSame}
 use Rattle.rx_lines.specs.Replies.{outcome_text, answer_text, answer_line, freed_line, waiter_text}
-use Rattle.rx_lines.specs.Session.{Between, IsOpen, Asks, Frees, FreesEach, Rests, FreesAll, freed_lines, request_in, ran_out, Answered, AllAnswered, greeting}
-use Rattle.rx_lines.specs.Session.Answered.{malformed, unread, replied}
+use Rattle.rx_lines.specs.Session.{Between, IsOpen, RequestIsAnswered, Frees, FreesEach, Rests, FreesAll, freed_lines, request_in, ran_out, LineAnswered, AllAnswered, greeting}
+use Rattle.rx_lines.specs.Session.LineAnswered.{malformed, unread, replied}
 use Rattle.rx_lines.specs.Determined.{refusal, is_all, shortage, shortages, IsAlike, AreAlike, OneText, OneTextWithEnough}
 use Rattle.rx_lines.proofs.OneEntry.{item_one}
 use Rattle.rx_lines.proofs.Viewing.{Keeps, IsTree, View, view, agree, stays, out_stays}
@@ -94,7 +94,7 @@ module _ (p : ℕ) where
   as-first b c is P k = subst (P (tree b)) is.1 (subst (λ (T : Tree). P T (count c)) is.0 k)
 
   -- a request has one answer
-  asks-one : (b c d e : Between) (q : Request) (a z : Answer) → Alike b c → Asks p b q a d → Asks p c q z e → refusal a ≡ refusal z
+  asks-one : (b c d e : Between) (q : Request) (a z : Answer) → Alike b c → RequestIsAnswered p b q a d → RequestIsAnswered p c q z e → refusal a ≡ refusal z
       → (answer_text a ≡ answer_text z) × Alike d e
   asks-one b c d e q a z h x y out =
       let here : View (tree b) (count b) b.waiters q a (tree d) (count d) d.waiters = view p b.entries d.entries b.waiters d.waiters q a x.asked in
@@ -223,7 +223,7 @@ module _ (p : ℕ) where
   none-told (y ∷ ys) b c d h r e = absurd (omega (arith, e))
 
   -- a request for which memory ran out, and behind which no release is told, is a line for which memory ran out
-  refused-one : (b c k e : Between) (q : Request) (a : Answer) (ys : List (Waiter × Outcome)) → Alike b c → Asks p c q a k
+  refused-one : (b c k e : Between) (q : Request) (a : Answer) (ys : List (Waiter × Outcome)) → Alike b c → RequestIsAnswered p c q a k
       → (frees : FreesAll p k ys e) → refusal a ≡ Some NoMemory → length ys ≡ 0
       → (answer_line a ++ freed_lines ys ≡ codes "no memory\n") × Alike b e
   refused-one b c k e q a ys h asks frees out stop =
@@ -248,7 +248,7 @@ module _ (p : ℕ) where
           }
 
   -- a line has one reply
-  answer-one : (b c d e : Between) (line x y : List ℕ) → Alike b c → (h : Answered p b line x d) → (k : Answered p c line y e)
+  answer-one : (b c d e : Between) (line x y : List ℕ) → Alike b c → (h : LineAnswered p b line x d) → (k : LineAnswered p c line y e)
       → IsAlike (shortage p b line x d h) (shortage p c line y e k) → (x ≡ y) × Alike d e
   answer-one b c d e line x y on (malformed none told same) (malformed nobody said equal) s =
       (told ∙ sym said, subst (λ (z : Between). Alike z e) (sym same) (subst (λ (z : Between). Alike b z) (sym equal) on))
@@ -273,7 +273,7 @@ module _ (p : ℕ) where
       (told ∙ (r.0 ∙ sym said), subst (λ (z : Between). Alike d z) (sym equal) (marked d c d.is_short true (turned c d r.1)))
   answer-one b c d e line x y on (replied q a m xs is asks frees told) (replied r z k ys also asked freed said) s =
       let same : r ≡ q = item_one (request_in line) r q also is in
-      let again = subst (λ (v : Request). Asks p c v z k) same asked in
+      let again = subst (λ (v : Request). RequestIsAnswered p c v z k) same asked in
       let reply = asks-one b c m k q a z on asks again s.0 in
       let rest = freed-one xs ys m k frees.0 freed.0 d e reply.1 frees.1 freed.1 frees.2 freed.2 s.1 in (
         told
@@ -338,7 +338,7 @@ module _ (p : ℕ) where
   each-plenty [] b c h e = ap (λ (z : Between). z.is_short) (sym h) ∙ e
   each-plenty (x ∷ xs) b c h e = sym h.1.short ∙ each-plenty xs h.0 c h.2 e
 
-  line-plenty : (b c : Between) (line text : List ℕ) (h : Answered p b line text c) → c.is_short ≡ false
+  line-plenty : (b c : Between) (line text : List ℕ) (h : LineAnswered p b line text c) → c.is_short ≡ false
       → (b.is_short ≡ false) × ((shortage p b line text c h).reply ≡ None) × ((shortage p b line text c h).all ≡ true)
   line-plenty b c line text (malformed none told same) e = (ap (λ (z : Between). z.is_short) (sym same) ∙ e, refl, refl)
   line-plenty b c line text (unread told same) e = absurd (true-false c.is_short (ap (λ (z : Between). z.is_short) same) e)

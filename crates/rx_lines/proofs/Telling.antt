@@ -4,32 +4,32 @@ use Rattle.std.specs.Io.KnownBytes.{Appends}
 use Rattle.std.proofs.KnownBytes.{Appends-trans}
 use Rattle.rx_rules.proofs.Common.{Rose}
 use Rattle.rx_lines.specs.declared.output.Pending.{Pending}
-use Rattle.rx_lines.specs.Inside.Telling.{IsLeft, Tells, Puts}
+use Rattle.rx_lines.specs.Inside.Telling.{IsLeft, TextIsTold, Puts}
 
 pub puts_then : {K : Type 0} (written : K → Option (List ℕ)) (faults : K → ℕ) (a b c : K) (s t u : Pending) (x y : List ℕ) → Puts written faults a s b t x → Puts written faults b t c u y → Puts written faults a s c u (x ++ y)
 puts_then written faults a b c s t u x y h k = λ w f text now.
-    subst (λ (z : List ℕ). Tells w f (written c) (faults c) u z) (append_assoc text x y) (k w f (text ++ x) (h w f text now))
+    subst (λ (z : List ℕ). TextIsTold w f (written c) (faults c) u z) (append_assoc text x y) (k w f (text ++ x) (h w f text now))
 
-pub with_none : (w : Option (List ℕ)) (f : ℕ) (v : Option (List ℕ)) (g : ℕ) (t : Pending) (text : List ℕ) → Tells w f v g t text → Tells w f v g t (text ++ [])
-with_none w f v g t text h = subst (λ (z : List ℕ). Tells w f v g t z) (sym (append-nil text)) h
+pub with_none : (w : Option (List ℕ)) (f : ℕ) (v : Option (List ℕ)) (g : ℕ) (t : Pending) (text : List ℕ) → TextIsTold w f v g t text → TextIsTold w f v g t (text ++ [])
+with_none w f v g t text h = subst (λ (z : List ℕ). TextIsTold w f v g t z) (sym (append-nil text)) h
 
-pub joined : (w : Option (List ℕ)) (f : ℕ) (v : Option (List ℕ)) (g : ℕ) (t : Pending) (text x y : List ℕ) → Tells w f v g t ((text ++ x) ++ y) → Tells w f v g t (text ++ (x ++ y))
-joined w f v g t text x y h = subst (λ (z : List ℕ). Tells w f v g t z) (append_assoc text x y) h
+pub joined : (w : Option (List ℕ)) (f : ℕ) (v : Option (List ℕ)) (g : ℕ) (t : Pending) (text x y : List ℕ) → TextIsTold w f v g t ((text ++ x) ++ y) → TextIsTold w f v g t (text ++ (x ++ y))
+joined w f v g t text x y h = subst (λ (z : List ℕ). TextIsTold w f v g t z) (append_assoc text x y) h
 
-pub told-as : (w : Option (List ℕ)) (f : ℕ) (v : Option (List ℕ)) (g : ℕ) (t : Pending) (text other : List ℕ) → text ≡ other → Tells w f v g t text → Tells w f v g t other
-told-as w f v g t text other e h = subst (λ (z : List ℕ). Tells w f v g t z) e h
+pub told-as : (w : Option (List ℕ)) (f : ℕ) (v : Option (List ℕ)) (g : ℕ) (t : Pending) (text other : List ℕ) → text ≡ other → TextIsTold w f v g t text → TextIsTold w f v g t other
+told-as w f v g t text other e h = subst (λ (z : List ℕ). TextIsTold w f v g t z) e h
 
-pub told-to : (w : Option (List ℕ)) (f : ℕ) (v : Option (List ℕ)) (g : ℕ) (t : Pending) (text other : List ℕ) → Tells w f v g t text → text ≡ other → Tells w f v g t other
-told-to w f v g t text other h e = subst (λ (z : List ℕ). Tells w f v g t z) e h
+pub told-to : (w : Option (List ℕ)) (f : ℕ) (v : Option (List ℕ)) (g : ℕ) (t : Pending) (text other : List ℕ) → TextIsTold w f v g t text → text ≡ other → TextIsTold w f v g t other
+told-to w f v g t text other h e = subst (λ (z : List ℕ). TextIsTold w f v g t z) e h
 
 -- nothing is left
-pub whole : (w : Option (List ℕ)) (f : ℕ) (v : Option (List ℕ)) (g : ℕ) (t : Pending) (text done rest all : List ℕ) → rest ≡ [] → done ++ rest ≡ all → Tells w f v g t (text ++ done) → Tells w f v g t (text ++ all)
+pub whole : (w : Option (List ℕ)) (f : ℕ) (v : Option (List ℕ)) (g : ℕ) (t : Pending) (text done rest all : List ℕ) → rest ≡ [] → done ++ rest ≡ all → TextIsTold w f v g t (text ++ done) → TextIsTold w f v g t (text ++ all)
 whole w f v g t text done rest all none is h =
-    subst (λ (z : List ℕ). Tells w f v g t (text ++ z)) (sym (append-nil done) ∙ (ap (λ z. done ++ z) (sym none) ∙ is)) h
+    subst (λ (z : List ℕ). TextIsTold w f v g t (text ++ z)) (sym (append-nil done) ∙ (ap (λ z. done ++ z) (sym none) ∙ is)) h
 
 -- no more was told
-pub without : (w : Option (List ℕ)) (f : ℕ) (v : Option (List ℕ)) (g : ℕ) (t : Pending) (text : List ℕ) → Tells w f v g t (text ++ []) → Tells w f v g t text
-without w f v g t text h = subst (λ (z : List ℕ). Tells w f v g t z) (append-nil text) h
+pub without : (w : Option (List ℕ)) (f : ℕ) (v : Option (List ℕ)) (g : ℕ) (t : Pending) (text : List ℕ) → TextIsTold w f v g t (text ++ []) → TextIsTold w f v g t text
+without w f v g t text h = subst (λ (z : List ℕ). TextIsTold w f v g t z) (append-nil text) h
 
 pub rose-on : (f g h : ℕ) → f ≤ g → Rose g h → Rose f h
 rose-on f g h low r = grind arith
@@ -45,7 +45,7 @@ put-kept false false f g rest piece old new same is h = ap (λ z. z ++ piece) h 
 put-kept true false f g rest piece old new same is h = cc
 put-kept false true f g rest piece old new same is h = cc
 
-pub kept : (w : Option (List ℕ)) (f : ℕ) (v : Option (List ℕ)) (g : ℕ) (t u : Pending) (text piece : List ℕ) → u.is_failed ≡ t.is_failed → u.text.items ≡ t.text.items ++ piece → Tells w f v g t text → Tells w f v g u (text ++ piece)
+pub kept : (w : Option (List ℕ)) (f : ℕ) (v : Option (List ℕ)) (g : ℕ) (t u : Pending) (text piece : List ℕ) → u.is_failed ≡ t.is_failed → u.text.items ≡ t.text.items ++ piece → TextIsTold w f v g t text → TextIsTold w f v g u (text ++ piece)
 kept w f v g t u text piece same is h =
     record {
       sent = h.sent;
@@ -62,7 +62,7 @@ put-failed true true f g rest piece old new was is h = left-failed f g rest piec
 put-failed true false f g rest piece old new was is h = cc
 put-failed false d f g rest piece old new was is h = cc
 
-pub failed : (w : Option (List ℕ)) (f : ℕ) (v : Option (List ℕ)) (g : ℕ) (t u : Pending) (text piece : List ℕ) → t.is_failed ≡ true → u.is_failed ≡ true → Tells w f v g t text → Tells w f v g u (text ++ piece)
+pub failed : (w : Option (List ℕ)) (f : ℕ) (v : Option (List ℕ)) (g : ℕ) (t u : Pending) (text piece : List ℕ) → t.is_failed ≡ true → u.is_failed ≡ true → TextIsTold w f v g t text → TextIsTold w f v g u (text ++ piece)
 failed w f v g t u text piece was is h =
     record {
       sent = h.sent;
@@ -87,7 +87,7 @@ left-some true f g rest new is r some = (r, some)
 left-some false f g rest new is r some = cc
 
 -- all that was pending is written, with the piece behind it
-pub written : (w : Option (List ℕ)) (f : ℕ) (v x : Option (List ℕ)) (g h : ℕ) (t u : Pending) (text piece bytes : List ℕ) → t.is_failed ≡ false → u.is_failed ≡ false → u.text.items ≡ [] → bytes ≡ t.text.items ++ piece → g ≤ h → Appends v x bytes → Tells w f v g t text → Tells w f x h u (text ++ piece)
+pub written : (w : Option (List ℕ)) (f : ℕ) (v x : Option (List ℕ)) (g h : ℕ) (t u : Pending) (text piece bytes : List ℕ) → t.is_failed ≡ false → u.is_failed ≡ false → u.text.items ≡ [] → bytes ≡ t.text.items ++ piece → g ≤ h → Appends v x bytes → TextIsTold w f v g t text → TextIsTold w f x h u (text ++ piece)
 written w f v x g h t u text piece bytes was is none whole low wrote now =
     let rest = rest-is t.is_failed f g now.rest t.text.items was now.left in
     let all : now.rest ++ piece ≡ bytes = ap (λ z. z ++ piece) rest ∙ sym whole in
@@ -101,7 +101,7 @@ written w f v x g h t u text piece bytes was is none whole low wrote now =
     }
 
 -- a write of these fails
-pub fails : (w : Option (List ℕ)) (f : ℕ) (v x : Option (List ℕ)) (g h : ℕ) (t u : Pending) (text piece bytes : List ℕ) (n : ℕ) → t.is_failed ≡ false → u.is_failed ≡ true → bytes ≡ t.text.items ++ piece → Rose g h → g ≤ h → n < length bytes → Appends v x (take n bytes) → Tells w f v g t text → Tells w f x h u (text ++ piece)
+pub fails : (w : Option (List ℕ)) (f : ℕ) (v x : Option (List ℕ)) (g h : ℕ) (t u : Pending) (text piece bytes : List ℕ) (n : ℕ) → t.is_failed ≡ false → u.is_failed ≡ true → bytes ≡ t.text.items ++ piece → Rose g h → g ≤ h → n < length bytes → Appends v x (take n bytes) → TextIsTold w f v g t text → TextIsTold w f x h u (text ++ piece)
 fails w f v x g h t u text piece bytes n was is whole rose low few wrote now =
     let rest = rest-is t.is_failed f g now.rest t.text.items was now.left in
     let all : now.rest ++ piece ≡ bytes = ap (λ z. z ++ piece) rest ∙ sym whole in

@@ -13,7 +13,7 @@ use Rattle.rx_coordinator.specs.declared.waiters.Waiter.{Waiter}
 use Rattle.rx_coordinator.specs.declared.waiters.Waiter.TheVariants.{Task as TaskWaits, Root as Host}
 use Rattle.rx_coordinator.specs.declared.waiters.Waiters.{Waiters}
 use Rattle.rx_coordinator.specs.Waiters.{waiter_at}
-use Rattle.rx_coordinator.specs.Stands.{Asked, Landing, Told, May, Busy}
+use Rattle.rx_coordinator.specs.Stands.{IsReplyTo, Landing, Told, May, Busy}
 use Rattle.rx_coordinator.specs.Parking.{IsParked, Puts, AskedBeside, waiter_of, request_of}
 use Rattle.rx_coordinator.specs.Inside.Walks.{IsSame}
 use Rattle.rx_lines.specs.Replies.{answer_text}
@@ -91,7 +91,7 @@ module _ (p : ℕ) where
     waits Root place may busy free h e = parked (place, Host, h.0, refl, refl, may, busy, free, h.1, stays es fs e)
     waits _ place may busy free h e = absurd busy
 
-    asked : (q : Request) (a : Answer) → (IsParked ws (waiter_of q) → a ≡ Bad) → Asked p es q a (Are fs)
+    asked : (q : Request) (a : Answer) → (IsParked ws (waiter_of q) → a ≡ Bad) → IsReplyTo p es q a (Are fs)
         → Puts (waiter_of q) a ws us → Seen q a
     asked q Bad bad k h = refused (refl, inr k.0, same-rows (waiter_of q) Bad (λ place e. (let v : ⊥ = cc in v)) h, stays es fs k.1)
     asked q Full bad k h = short (refl, same-rows (waiter_of q) Full (λ place e. (let v : ⊥ = cc in v)) h, stays es fs k.2)

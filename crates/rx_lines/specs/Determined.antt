@@ -3,8 +3,8 @@ use Rattle.std.specs.Prelude.{◌≡◌, ◌⊎◌, ℕ, ◌≤◌, Bool, true, 
 use Rattle.std.proofs.Common.{inl, inr}
 use Rattle.rx_coordinator.specs.declared.requests.Answer.{Answer}
 use Rattle.rx_coordinator.specs.declared.requests.Answer.TheVariants.{NoMemory}
-use Rattle.rx_lines.specs.Session.{Between, ran_out, Rests, Answered, AllAnswered, IsSession}
-use Rattle.rx_lines.specs.Session.Answered.{malformed, unread, replied}
+use Rattle.rx_lines.specs.Session.{Between, ran_out, Rests, LineAnswered, AllAnswered, IsSession}
+use Rattle.rx_lines.specs.Session.LineAnswered.{malformed, unread, replied}
 
 -- What ran out while a line was answered: memory or numbers for the request, where its reply says so. And how many releases are told behind
 -- the reply, and whether these are all that were possible.
@@ -23,7 +23,7 @@ is_all p b c (inl none) = true
 is_all p b c (inr short) = false
 
 -- Of one line. Where memory ran out for the line itself, its reply says so, and no release was tried.
-abbrev pub shortage : (p : ℕ) (b : Between) (line text : List ℕ) (c : Between) → Answered p b line text c → Shortage
+abbrev pub shortage : (p : ℕ) (b : Between) (line text : List ℕ) (c : Between) → LineAnswered p b line text c → Shortage
 shortage p b line text c (malformed none told same) = record { reply = None; told = 0; all = true }
 shortage p b line text c (unread told short) = record { reply = Some NoMemory; told = 0; all = false }
 shortage p b line text c (replied q a m xs is asks frees told) =

@@ -1,5 +1,6 @@
 -- What a session tells: the greeting, and behind it for each line its reply and the lines of the releases that it made possible.
-use Rattle.std.specs.Prelude.{◌≡◌, ◌⊎◌, ℕ, nat_le, Bool, true, false, ◌||◌, List, [], ◌∷◌, ◌++◌, length, Option, Some, None, if◌then◌else◌, codes}
+use Rattle.std.specs.Prelude.{◌≡◌, ◌⊎◌, ℕ, nat_le, Bool, true, false, ◌||◌, List, [], ◌∷◌, ◌++◌, length, Option, Some, None}
+use Rattle.std.specs.Prelude.{if◌then◌else◌, codes}
 use Rattle.std.specs.List.{flat_map}
 use Rattle.rx_text.specs.Numbers.{natural_text}
 use Rattle.rx_fields.specs.Words.{pieces}
@@ -13,7 +14,7 @@ use Rattle.rx_coordinator.specs.declared.waiters.Waiter.{Waiter}
 use Rattle.rx_coordinator.specs.declared.waiters.Waiters.{Waiters}
 use Rattle.rx_coordinator.specs.declared.parking.Freed.TheVariants.{NoOne, Short}
 use Rattle.rx_coordinator.specs.Waiters.{waiter_at}
-use Rattle.rx_coordinator.specs.Parking.{AskedBeside, FreedFrom, FreedIs, WaitsThere}
+use Rattle.rx_coordinator.specs.Parking.{AskedBeside, FreedFrom, FreedIs, WaiterIsThere}
 use Rattle.rx_lines.specs.Lines.{line_request}
 use Rattle.rx_lines.specs.Replies.{answer_line, freed_line}
 
@@ -40,9 +41,9 @@ ran_out NoMemory = true
 ran_out _ = false
 
 -- A request has this answer, and whoever waits then does so where the tree says.
-pub record Asks (p : ℕ) (b : Between) (q : Request) (a : Answer) (c : Between) : Type 0 where
+pub record RequestIsAnswered (p : ℕ) (b : Between) (q : Request) (a : Answer) (c : Between) : Type 0 where
   pub asked : AskedBeside p b.entries q b.waiters a (Are c.entries) c.waiters
-  pub there : (n : ℕ) (who : Waiter) → waiter_at c.waiters n ≡ Some who → WaitsThere (tree_of p c.entries) n who
+  pub there : (n : ℕ) (who : Waiter) → waiter_at c.waiters n ≡ Some who → WaiterIsThere (tree_of p c.entries) n who
   pub short : c.is_short ≡ (b.is_short || ran_out a)
 
 -- a release that has waited, of the scope of this number, has this outcome
@@ -75,17 +76,17 @@ abbrev pub request_in : List ℕ → Option Request
 request_in line = if nat_le (length line) 4096 then line_request line else None
 
 -- What is told for a line. Where memory runs out for the line itself, nothing is asked.
-pub data Answered (p : ℕ) (b : Between) (line text : List ℕ) (c : Between) : Type 0 where
-  malformed : request_in line ≡ None → text ≡ codes "malformed\n" → c ≡ b → Answered p b line text c
-  unread : text ≡ codes "no memory\n" → c ≡ record b { is_short = true } → Answered p b line text c
-  replied : (q : Request) (a : Answer) (m : Between) (xs : List (Waiter × Outcome)) → request_in line ≡ Some q → Asks p b q a m
-      → FreesAll p m xs c → text ≡ answer_line a ++ freed_lines xs → Answered p b line text c
+pub data LineAnswered (p : ℕ) (b : Between) (line text : List ℕ) (c : Between) : Type 0 where
+  malformed : request_in line ≡ None → text ≡ codes "malformed\n" → c ≡ b → LineAnswered p b line text c
+  unread : text ≡ codes "no memory\n" → c ≡ record b { is_short = true } → LineAnswered p b line text c
+  replied : (q : Request) (a : Answer) (m : Between) (xs : List (Waiter × Outcome)) → request_in line ≡ Some q → RequestIsAnswered p b q a m
+      → FreesAll p m xs c → text ≡ answer_line a ++ freed_lines xs → LineAnswered p b line text c
 
 -- what is told for lines
 abbrev pub AllAnswered : ℕ → Between → List (List ℕ) → List ℕ → Between → Type 0
 AllAnswered p b [] text c = (text ≡ []) × (c ≡ b)
 AllAnswered p b (line ∷ lines) text d =
-    (c : Between) × (here later : List ℕ) × Answered p b line here c × AllAnswered p c lines later d × (text ≡ here ++ later)
+    (c : Between) × (here later : List ℕ) × LineAnswered p b line here c × AllAnswered p c lines later d × (text ≡ here ++ later)
 
 -- what is told before the first line
 abbrev pub greeting : ℕ → List ℕ

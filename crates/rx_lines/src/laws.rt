@@ -16,9 +16,9 @@ pub fn sessions_keep_the_laws()
     ensures masked { (p : ℕ) (bytes text : List ℕ) → 1 ≤ p → p ≤ 16 → (s : IsSession p bytes text)
         → (i : ℕ) (e : Entry) → slice_get s.after.entries i ≡ Some e → MaskedMeansLost e }
 {
-    rx_laws::nothing_is_early();
-    rx_laws::losses_are_exact();
-    rx_laws::masked_is_lost();
+    rx_history_laws::nothing_is_early();
+    rx_history_laws::losses_are_exact();
+    rx_history_laws::masked_is_lost();
 }
 
 /// A law of contracts: one input has one text. Whatever two sessions with the same bytes and as many places are, they tell the same where

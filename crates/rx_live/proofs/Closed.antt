@@ -1,7 +1,7 @@
 -- The books of the places are closed, the last place first.
 use Rattle.std.proofs.Common.{◌≡◌, ℕ, suc, ◌+◌, List, [], ◌∷◌, ◌++◌, length, Some, slice_get, refl, ap, sym, ◌∙◌, subst, arith, append_assoc}
 use Rattle.std.proofs.lemmas.List.{append-nil, length_push}
-use Rattle.rx_store.specs.Kept.{Kept}
+use Rattle.rx_store.specs.Kept.{StoreView}
 use Rattle.rx_book.specs.declared.views.Stamped.{Stamped}
 use Rattle.rx_book.specs.declared.passes.Pass.{Pass}
 use Rattle.rx_book.specs.declared.passes.Note.{Note}
@@ -21,7 +21,7 @@ use Rattle.rx_live.proofs.Finishing.{EndedFrom, none_ended, one_ended, stays_ref
 
 -- behind these stations and passes the others have been closed, with these stores
 pub record ClosesFrom (L : BookName LedgerFixed) (stations : List PostName) (seats : List (Pass EventItem)) (host : Pass EntryItem)
-    (stations' : List PostName) (seats' : List (Pass EventItem)) (host' : Pass EntryItem) (stores : List Kept) : Type 0 where
+    (stations' : List PostName) (seats' : List (Pass EventItem)) (host' : Pass EntryItem) (stores : List StoreView) : Type 0 where
   pub sees : SeesEnd L host'
   pub stays : StaysAt host host'
   pub posts : List PostName
@@ -58,7 +58,7 @@ got_last all xs ys x is = ap (λ l. slice_get l (length xs)) is ∙ there xs
 pub one_less : {X : Type 0} (all xs ys rest : List X) (x : X) → all ≡ xs ++ rest → xs ≡ ys ++ x ∷ [] → all ≡ (ys ++ x ∷ []) ++ rest
 one_less all xs ys rest x is more = is ∙ ap (λ l. l ++ rest) more
 
-module _ (L : BookName LedgerFixed) (stations : List PostName) (seats : List (Pass EventItem)) (host : Pass EntryItem) (stations1 : List PostName) (seats1 : List (Pass EventItem)) (host1 : Pass EntryItem) (stores : List Kept)
+module _ (L : BookName LedgerFixed) (stations : List PostName) (seats : List (Pass EventItem)) (host : Pass EntryItem) (stations1 : List PostName) (seats1 : List (Pass EventItem)) (host1 : Pass EntryItem) (stores : List StoreView)
     (from : ClosesFrom L stations seats host stations1 seats1 host1 stores) (stations2 : List PostName) (post : PostName) (posts_are : stations1 ≡ stations2 ++ post ∷ []) (seats2 : List (Pass EventItem)) (seat : Pass EventItem)
     (seats_are : seats1 ≡ seats2 ++ seat ∷ []) where
   pub as_many : length seats2 ≡ length stations2
@@ -84,7 +84,7 @@ module _ (L : BookName LedgerFixed) (stations : List PostName) (seats : List (Pa
     seat_is = let z : 0 + length stations2 ≡ post.place.0 = (let e = is_last in omega (arith, e)) in subst (λ (n : ℕ). slice_get L.fixed.places n ≡ Some (word_of seat)) z (seat_at L 0 (length stations2) seats seat of got_seat)
 
     -- one place more has ended
-    pub one_closed : (host2 : Pass EntryItem) (store : Kept) (note : Note EntryItem) → IsClosed L post.place.0 (view_of seat).seen store (Some note) → SeesEnd L host2 → StaysAt host1 host2
+    pub one_closed : (host2 : Pass EntryItem) (store : StoreView) (note : Note EntryItem) → IsClosed L post.place.0 (view_of seat).seen store (Some note) → SeesEnd L host2 → StaysAt host1 host2
         → IsHeard (view_of host1).seen (view_of host2).reach (note_view note) → ClosesFrom L stations seats host stations2 seats2 host2 (store ∷ stores)
     one_closed host2 store note closed sees stays heard =
         record {
@@ -108,7 +108,7 @@ module _ (L : BookName LedgerFixed) (stations : List PostName) (seats : List (Pa
             subst (λ (n : ℕ). EndedFrom L (view_of host).seen (view_of host1).reach (views_of seats) n (length seats) stores) more from.ended
 
 -- all places have ended
-pub all_closed : (L : BookName LedgerFixed) (stations : List PostName) (seats : List (Pass EventItem)) (host : Pass EntryItem) (stations' : List PostName) (seats' : List (Pass EventItem)) (host' : Pass EntryItem) (stores : List Kept)
+pub all_closed : (L : BookName LedgerFixed) (stations : List PostName) (seats : List (Pass EventItem)) (host : Pass EntryItem) (stations' : List PostName) (seats' : List (Pass EventItem)) (host' : Pass EntryItem) (stores : List StoreView)
     → ClosesFrom L stations seats host stations' seats' host' stores → length stations' ≡ 0 → PlacesEnded L (view_of host') (views_of seats) stores
 all_closed L stations seats host stations' seats' host' stores from none =
     let e = subst (λ (n : ℕ). EndedFrom L (view_of host).seen (view_of host').reach (views_of seats) n (length seats) stores) none from.ended in

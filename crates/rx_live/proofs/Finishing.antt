@@ -2,7 +2,7 @@
 use Rattle.std.proofs.Common.{◌≡◌, ℕ, suc, ◌+◌, ◌≤◌, List, [], ◌∷◌, length, Option, Some, None, slice_get, refl, ap, sym, ◌∙◌, subst, arith}
 use Rattle.rx_rules.proofs.Common.{Block, EndsWithRoot, death_number}
 use Rattle.rx_syntax.specs.Shape.{Stands}
-use Rattle.rx_store.specs.Kept.{Kept}
+use Rattle.rx_store.specs.Kept.{StoreView}
 use Rattle.rx_book.specs.declared.views.Stamped.{Stamped}
 use Rattle.rx_book.specs.declared.views.View.{View}
 use Rattle.rx_book.specs.declared.passes.Pass.{Pass}
@@ -40,13 +40,13 @@ stays_trans a b c s t =
 -- Places that have ended.
 
 -- a place that was closed, and whose note was heard, has ended
-pub ends_so : (L : BookName LedgerFixed) (h : List (Stamped EntryItem)) (n : ℕ) (views : List (View EventItem)) (p : ℕ) (v : View EventItem) (s : Kept) (note : Note EntryItem)
+pub ends_so : (L : BookName LedgerFixed) (h : List (Stamped EntryItem)) (n : ℕ) (views : List (View EventItem)) (p : ℕ) (v : View EventItem) (s : StoreView) (note : Note EntryItem)
     → (closed : IsClosed L p v.seen s (Some note)) → slice_get views p ≡ Some v → IsHeard h n (note_view note) → PlaceEnds L h n views p s closed.history
 ends_so L h n views p v s note closed pass heard =
     record { lawful = closed.lawful; view = v; pass = pass; begins = closed.begins; note = note; kept = closed.kept; heard = heard }
 
 -- what is known of the places from p on, whose stores are these
-pub record EndedFrom (L : BookName LedgerFixed) (h : List (Stamped EntryItem)) (n : ℕ) (views : List (View EventItem)) (p q : ℕ) (stores : List Kept) : Type 0 where
+pub record EndedFrom (L : BookName LedgerFixed) (h : List (Stamped EntryItem)) (n : ℕ) (views : List (View EventItem)) (p q : ℕ) (stores : List StoreView) : Type 0 where
   pub histories : List (List (Stamped EventItem))
   pub each : EachEnds L h n views p stores histories
   pub words : HaveWords L.fixed.setup.heap stores
@@ -55,7 +55,7 @@ pub record EndedFrom (L : BookName LedgerFixed) (h : List (Stamped EntryItem)) (
 pub none_ended : (L : BookName LedgerFixed) (h : List (Stamped EntryItem)) (n : ℕ) (views : List (View EventItem)) (q : ℕ) → EndedFrom L h n views q q []
 none_ended L h n views q = record { histories = []; each = tt; words = tt; many = omega arith }
 
-pub one_ended : (L : BookName LedgerFixed) (h : List (Stamped EntryItem)) (n m : ℕ) (views : List (View EventItem)) (p q : ℕ) (v : View EventItem) (s : Kept) (note : Note EntryItem) (stores : List Kept)
+pub one_ended : (L : BookName LedgerFixed) (h : List (Stamped EntryItem)) (n m : ℕ) (views : List (View EventItem)) (p q : ℕ) (v : View EventItem) (s : StoreView) (note : Note EntryItem) (stores : List StoreView)
     → EndedFrom L h n views (suc p) q stores → n ≤ m → (closed : IsClosed L p v.seen s (Some note)) → slice_get views p ≡ Some v → IsHeard h m (note_view note) → EndedFrom L h m views p q (s ∷ stores)
 one_ended L h n m views p q v s note stores e le closed pass heard =
     record {
@@ -67,7 +67,7 @@ one_ended L h n m views p q v s note stores e le closed pass heard =
 
 -- the stores of places that have ended may be shut
 pub may_shut : (law : StampsBeforeDeath) (code : Block) (L : BookName LedgerFixed) (h : List (Stamped EntryItem)) (n : ℕ) (views : List (View EventItem)) → Stands L.fixed.program.script code → n ≤ length h
-    → (p : ℕ) (ss : List Kept) (ks : List (List (Stamped EventItem))) → p + length ks ≤ 16 → EachEnds L h n views p ss ks → MayBeShut (entries_at h) p ss
+    → (p : ℕ) (ss : List StoreView) (ks : List (List (Stamped EventItem))) → p + length ks ≤ 16 → EachEnds L h n views p ss ks → MayBeShut (entries_at h) p ss
 may_shut law code L h n views stands long p [] [] few e = tt
 may_shut law code L h n views stands long p (s ∷ ss) (k ∷ ks) few e = (
   shuts (death_number 0 (record { 0 = p }) (entries_at h)) refl,
@@ -81,7 +81,7 @@ may_shut law code L h n views stands long p [] (k ∷ ks) few e = absurd e
 may_shut law code L h n views stands long p (s ∷ ss) [] few e = absurd e
 
 -- so many stores as histories
-pub as_many : (L : BookName LedgerFixed) (h : List (Stamped EntryItem)) (n : ℕ) (views : List (View EventItem)) (p : ℕ) (ss : List Kept) (ks : List (List (Stamped EventItem)))
+pub as_many : (L : BookName LedgerFixed) (h : List (Stamped EntryItem)) (n : ℕ) (views : List (View EventItem)) (p : ℕ) (ss : List StoreView) (ks : List (List (Stamped EventItem)))
     → EachEnds L h n views p ss ks → length ss ≡ length ks
 as_many L h n views p [] [] e = refl
 as_many L h n views p (s ∷ ss) (k ∷ ks) e = ap suc (as_many L h n views (suc p) ss ks e.1)

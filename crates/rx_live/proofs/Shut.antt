@@ -5,24 +5,24 @@ use Rattle.rx_rules.specs.declared.entries.Entry.{Entry}
 use Rattle.rx_rules.specs.declared.events.PlaceEvent.{PlaceEvent}
 use Rattle.rx_rules.proofs.Common.{death_number, IsStoreRun, opening_state}
 use Rattle.rx_history.specs.Events.{Events, AllEvents, events_of}
-use Rattle.rx_store.specs.Kept.{Kept}
+use Rattle.rx_store.specs.Kept.{StoreView}
 use Rattle.rx_objects.specs.Ending.{IsShut, EachShut}
 use Rattle.rx_live.specs.Inside.Ending.{HaveWords, ShutsAt, MayBeShut}
 
 -- the stores in front of this place are closed, and give these journals; the others are left, the last first
-pub record ShutTo (es : List Entry) (stores rest : List Kept) (place : ℕ) (js : List (List PlaceEvent)) : Type 0 where
-  pub done : List Kept
+pub record ShutTo (es : List Entry) (stores rest : List StoreView) (place : ℕ) (js : List (List PlaceEvent)) : Type 0 where
+  pub done : List StoreView
   pub split : stores ≡ done ++ reverse rest
   pub many : length done ≡ place
   pub left : MayBeShut es place (reverse rest)
   pub shut : (heap : ℕ) → HaveWords heap stores → EachShut es heap 0 done js
 
-pub none_shut : (es : List Entry) (stores rest : List Kept) → rest ≡ reverse stores → MayBeShut es 0 stores → ShutTo es stores rest 0 []
+pub none_shut : (es : List Entry) (stores rest : List StoreView) → rest ≡ reverse stores → MayBeShut es 0 stores → ShutTo es stores rest 0 []
 none_shut es stores rest is may =
     let back : stores ≡ reverse rest = sym (ap reverse is ∙ reverse-reverse stores) in
     record { done = []; split = back; many = refl; left = subst (MayBeShut es 0) back may; shut = λ heap words. tt }
 
-each_more : (es : List Entry) (heap p q : ℕ) (ss : List Kept) (js : List (List PlaceEvent)) (s : Kept) (j : List PlaceEvent) → q ≡ p + length ss → EachShut es heap p ss js
+each_more : (es : List Entry) (heap p q : ℕ) (ss : List StoreView) (js : List (List PlaceEvent)) (s : StoreView) (j : List PlaceEvent) → q ≡ p + length ss → EachShut es heap p ss js
     → IsShut (death_number 0 (record { 0 = q }) es) s.events j → IsStoreRun heap opening_state j → EachShut es heap p (ss ++ s ∷ []) (js ++ j ∷ [])
 each_more es heap p q [] [] s j is e shut run =
     let it : q ≡ p = omega (arith, is) in (subst (λ (n : ℕ). IsShut (death_number 0 (record { 0 = n }) es) s.events j) it shut, run, tt)
@@ -30,16 +30,16 @@ each_more es heap p q (t ∷ ss) (k ∷ js) s j is e shut run = (e.0, e.1, each_
 each_more es heap p q [] (k ∷ js) s j is e shut run = absurd e
 each_more es heap p q (t ∷ ss) [] s j is e shut run = absurd e
 
-have_at : (n : ℕ) (xs ys : List Kept) (s : Kept) → HaveWords n (xs ++ s ∷ ys) → s.words ≡ n
+have_at : (n : ℕ) (xs ys : List StoreView) (s : StoreView) → HaveWords n (xs ++ s ∷ ys) → s.words ≡ n
 have_at n [] ys s h = h.0
 have_at n (x ∷ xs) ys s h = have_at n xs ys s h.1
 
-module _ (es : List Entry) (stores rest : List Kept) (place : ℕ) (js : List (List PlaceEvent)) (to : ShutTo es stores rest place js) (less : List Kept) (s : Kept) (is : rest ≡ less ++ s ∷ []) where
+module _ (es : List Entry) (stores rest : List StoreView) (place : ℕ) (js : List (List PlaceEvent)) (to : ShutTo es stores rest place js) (less : List StoreView) (s : StoreView) (is : rest ≡ less ++ s ∷ []) where
   turned : reverse rest ≡ s ∷ reverse less
   turned = ap reverse is ∙ reverse-append less (s ∷ [])
 
   split : stores ≡ to.done ++ s ∷ reverse less
-  split = to.split ∙ ap (λ (l : List Kept). to.done ++ l) turned
+  split = to.split ∙ ap (λ (l : List StoreView). to.done ++ l) turned
 
   left : MayBeShut es place (s ∷ reverse less)
   left = subst (MayBeShut es place) turned to.left
@@ -67,10 +67,10 @@ module _ (es : List Entry) (stores rest : List Kept) (place : ℕ) (js : List (L
             (subst (λ (n : ℕ). IsStoreRun n opening_state j) (have_at heap to.done (reverse less) s (subst (HaveWords heap) split words)) run));
       }
 
-pub all_shut : (es : List Entry) (stores rest : List Kept) (place : ℕ) (js : List (List PlaceEvent)) → ShutTo es stores rest place js → length rest ≡ 0 → (heap : ℕ) → HaveWords heap stores → EachShut es heap 0 stores js
+pub all_shut : (es : List Entry) (stores rest : List StoreView) (place : ℕ) (js : List (List PlaceEvent)) → ShutTo es stores rest place js → length rest ≡ 0 → (heap : ℕ) → HaveWords heap stores → EachShut es heap 0 stores js
 all_shut es stores rest place js to none heap words =
-    let same : stores ≡ to.done = to.split ∙ (ap (λ (l : List Kept). to.done ++ reverse l) (nil_from_length rest none) ∙ append-nil to.done) in
-    subst (λ (l : List Kept). EachShut es heap 0 l js) (sym same) (to.shut heap words)
+    let same : stores ≡ to.done = to.split ∙ (ap (λ (l : List StoreView). to.done ++ reverse l) (nil_from_length rest none) ∙ append-nil to.done) in
+    subst (λ (l : List StoreView). EachShut es heap 0 l js) (sym same) (to.shut heap words)
 
 -- one journal more
 pub events_more : (a b : AllEvents) (j : Events) (spare : ℕ) → b ≡ record { journals = a.journals ++ j ∷ []; spare = spare } → events_of b ≡ events_of a ++ j.events ∷ []

@@ -15,7 +15,7 @@ use Rattle.rx_monitor.specs.Boards.{Listing}
 use Rattle.rx_objects.specs.Shown.{board_of, BoardShows}
 use Rattle.rx_history.specs.declared.setup.Setup.{Setup}
 use Rattle.rx_history.specs.Setups.{given, to_join}
-use Rattle.rx_store.specs.Kept.{Kept}
+use Rattle.rx_store.specs.Kept.{StoreView}
 use Rattle.rx_book.specs.declared.views.View.{View}
 use Rattle.rx_book.specs.declared.passes.Pass.{Pass}
 use Rattle.rx_book.specs.Calls.{IsFresh}
@@ -85,7 +85,7 @@ is_main L S P control ticket first pass words setup program places main own fres
 -- The end.
 
 -- places that have ended stay so where the host's pass knows of more entries
-pub ended_later : (L : BookName LedgerFixed) (v w : View EntryItem) (views : List (View EventItem)) (stores : List Kept) → w.seen ≡ v.seen → v.reach ≤ w.reach → PlacesEnded L v views stores → PlacesEnded L w views stores
+pub ended_later : (L : BookName LedgerFixed) (v w : View EntryItem) (views : List (View EventItem)) (stores : List StoreView) → w.seen ≡ v.seen → v.reach ≤ w.reach → PlacesEnded L v views stores → PlacesEnded L w views stores
 ended_later L v w views stores same le ended =
     record {
       histories = ended.histories;
@@ -96,7 +96,7 @@ ended_later L v w views stores same le ended =
     }
 
 -- what is left of a run: the root's release was told to the pass `told`, the places ended with the pass `closed`, and `final` has met all
-pub run_ends : (L : BookName LedgerFixed) (told closed final : Pass EntryItem) (notes : Notes) (seats : List (Pass EventItem)) (stores : List Kept) → RootIsTold L.fixed notes (view_of told).seen → All (IsMet (views_of seats)) notes
+pub run_ends : (L : BookName LedgerFixed) (told closed final : Pass EntryItem) (notes : Notes) (seats : List (Pass EventItem)) (stores : List StoreView) → RootIsTold L.fixed notes (view_of told).seen → All (IsMet (views_of seats)) notes
     → PlacesEnded L (view_of closed) (views_of seats) stores → SeesEnd L final → StaysAt told final → StaysAt closed final → length seats ≡ in_all (given L.fixed.setup) → RunEnds L final stores
 run_ends L told closed final notes seats stores root met ended sees since later many =
     record {
@@ -110,17 +110,17 @@ run_ends L told closed final notes seats stores root met ended sees since later 
     }
 
 -- there are as many stores as places
-pub stores_are : (L : BookName LedgerFixed) (final : Pass EntryItem) (stores : List Kept) → RunEnds L final stores → length stores ≡ in_all (given L.fixed.setup)
+pub stores_are : (L : BookName LedgerFixed) (final : Pass EntryItem) (stores : List StoreView) → RunEnds L final stores → length stores ≡ in_all (given L.fixed.setup)
 stores_are L final stores ends =
     as_many L (view_of final).seen (view_of final).reach ends.views 0 stores ends.ended.histories ends.ended.each ∙ (ends.ended.one_each ∙ ends.all)
 
-pub few_stores : (L : BookName LedgerFixed) (final : Pass EntryItem) (stores : List Kept) → Proper (given L.fixed.setup) → RunEnds L final stores → length stores ≤ 16
+pub few_stores : (L : BookName LedgerFixed) (final : Pass EntryItem) (stores : List StoreView) → Proper (given L.fixed.setup) → RunEnds L final stores → length stores ≤ 16
 few_stores L final stores proper ends =
     let a = stores_are L final stores ends in
     let b = proper.few in omega (arith, a, b)
 
 -- they may be shut
-pub run_may_shut : (law : StampsBeforeDeath) (code : Block) (L : BookName LedgerFixed) (final : Pass EntryItem) (stores : List Kept) → Stands L.fixed.program.script code → Proper (given L.fixed.setup)
+pub run_may_shut : (law : StampsBeforeDeath) (code : Block) (L : BookName LedgerFixed) (final : Pass EntryItem) (stores : List StoreView) → Stands L.fixed.program.script code → Proper (given L.fixed.setup)
     → (view_of final).reach ≤ length (view_of final).seen → RunEnds L final stores → MayBeShut (entries_at (view_of final).seen) 0 stores
 run_may_shut law code L final stores stands proper long ends =
     may_shut law code L (view_of final).seen (view_of final).reach ends.views stands long 0 stores ends.ended.histories few ends.ended.each
@@ -131,7 +131,7 @@ run_may_shut law code L final stores stands proper long ends =
         let b = proper.few in omega (arith, a, b)
 
 -- and the whole is a run
-pub run_whole : (law : BooksMakeRun) (code : Block) (L : BookName LedgerFixed) (final : Pass EntryItem) (stores : List Kept) (js : List (List PlaceEvent)) → Stands L.fixed.program.script code → Proper (given L.fixed.setup)
+pub run_whole : (law : BooksMakeRun) (code : Block) (L : BookName LedgerFixed) (final : Pass EntryItem) (stores : List StoreView) (js : List (List PlaceEvent)) → Stands L.fixed.program.script code → Proper (given L.fixed.setup)
     → (view_of final).reach ≤ length (view_of final).seen → RunEnds L final stores → EachShut (entries_at (view_of final).seen) L.fixed.setup.heap 0 stores js
     → IsRun code (given L.fixed.setup) (entries_at (view_of final).seen) js
 run_whole law code L final stores js stands proper long ends shut =
@@ -156,7 +156,7 @@ run_whole law code L final stores js stands proper long ends shut =
 
 -- The same with the setup, the program and the entries as they are handed in and out.
 
-pub run_so : (law : BooksMakeRun) (code : Block) (L : BookName LedgerFixed) (S : Setup) (P : Checked) (final : Pass EntryItem) (stores : List Kept) (es : List Entry) (js : List (List PlaceEvent)) → L.fixed.setup ≡ S
+pub run_so : (law : BooksMakeRun) (code : Block) (L : BookName LedgerFixed) (S : Setup) (P : Checked) (final : Pass EntryItem) (stores : List StoreView) (es : List Entry) (js : List (List PlaceEvent)) → L.fixed.setup ≡ S
     → L.fixed.program ≡ P → Proper (given S) → (view_of final).reach ≤ length (view_of final).seen → RunEnds L final stores → es ≡ entries_at (view_of final).seen
     → ((heap : ℕ) → HaveWords heap stores → EachShut es heap 0 stores js) → Stands P.script code → IsRun code (given S) es js
 run_so law code L S P final stores es js setup program proper long ends entries shut script =
@@ -165,7 +165,7 @@ run_so law code L S P final stores es js setup program proper long ends entries 
     (run_whole law code L final stores js (subst (λ (q : Checked). Stands q.script code) (sym program) script) (proper_so L S setup proper) long ends
     (subst (λ (l : List Entry). EachShut l L.fixed.setup.heap 0 stores js) entries (shut L.fixed.setup.heap ends.ended.words))))
 
-pub shut_so : (law : StampsBeforeDeath) (code : Block) (L : BookName LedgerFixed) (S : Setup) (P : Checked) (final : Pass EntryItem) (stores : List Kept) (es : List Entry) → L.fixed.setup ≡ S → L.fixed.program ≡ P → Proper (given S)
+pub shut_so : (law : StampsBeforeDeath) (code : Block) (L : BookName LedgerFixed) (S : Setup) (P : Checked) (final : Pass EntryItem) (stores : List StoreView) (es : List Entry) → L.fixed.setup ≡ S → L.fixed.program ≡ P → Proper (given S)
     → (view_of final).reach ≤ length (view_of final).seen → RunEnds L final stores → es ≡ entries_at (view_of final).seen → Stands P.script code → MayBeShut es 0 stores
 shut_so law code L S P final stores es setup program proper long ends entries script =
     subst (λ (l : List Entry). MayBeShut l 0 stores) (sym entries)

@@ -5,7 +5,7 @@ ghost use Rattle.rx_history.specs.Events.{events_of};
 ghost use Rattle.rx_book.specs.Passes.{view_of, word_of, note_view, note_word};
 ghost use Rattle.rx_objects.specs.Ledger.{LedgerIsLegal};
 ghost use Rattle.rx_objects.specs.Noted.{AreOfPlaces};
-ghost use Rattle.rx_objects.specs.Ending.{IsHost, IsMet, IsHeard, IsShut, EachShut, SeesEnd};
+ghost use Rattle.rx_objects.specs.Ending.{HostKnows, IsMet, IsHeard, IsShut, EachShut, SeesEnd};
 ghost use Rattle.rx_stations.specs.Stations.{AreFrom};
 ghost use Rattle.rx_live.specs.Inside.Ending.{SeatsFrom, views_of, IsAnswered, IsReleased, MeetsAt};
 ghost use Rattle.rx_live.specs.Inside.Ending.{StaysAt, HasSeen, HaveWords, PlacesEnded, ShutsAt, MayBeShut};
@@ -49,7 +49,7 @@ pub(crate) fn release<L: LedgerBook, R: Wait>(
 ) -> Released
     requires program { (L.name ledger.now).fixed.program ≡ p.now }
     requires own { word_of host.old ≡ (L.name ledger.now).word }
-    requires host { IsHost (view_of host.old) }
+    requires host { HostKnows (view_of host.old) }
     requires lawful { LedgerIsLegal (L.name ledger.now).fixed (view_of host.old).seen }
     ensures own { word_of host.new ≡ word_of host.old }
     ensures lawful { LedgerIsLegal (L.name ledger.now).fixed (view_of host.new).seen }

@@ -2,7 +2,8 @@
 use Rattle.std.proofs.Common.{◌≡◌, ℕ, ◌<◌, get_or, length, true, false, not, ◌&&◌, ◌||◌, List, Option, Some, None, is_none, refl, ap, ◌∙◌, sym, subst}
 use Rattle.std.proofs.lemmas.Option.{slice_get-get_or}
 use Rattle.rx_rules.proofs.Common.{Tree, inner, quiet, Reached, is_enabled, Player}
-use Rattle.rx_sound.specs.Owning.{WaiterOwns}
+use Rattle.rx_rules.specs.declared.entries.Entry.{Entry}
+use Rattle.rx_tree_laws.specs.Owning.{WaiterOwns}
 use Rattle.rx_finish.specs.Callers.{MayAskRelease, WaitsInside, HasNumbers}
 use Rattle.rx_finish.specs.Calls.{is_ready, blow_of}
 use Rattle.rx_syntax.specs.Shape.{Shape}

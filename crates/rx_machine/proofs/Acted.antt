@@ -14,7 +14,7 @@ use Rattle.rx_rules.specs.Plays.{Fits}
 use Rattle.rx_rules.proofs.Append.{tree-push}
 use Rattle.rx_history.specs.Logs.{Log}
 use Rattle.rx_history.specs.Setups.{given}
-use Rattle.rx_store.specs.Kept.{Kept}
+use Rattle.rx_store.specs.Kept.{StoreView}
 use Rattle.rx_finish.specs.declared.ledger.Caller.{Caller}
 use Rattle.rx_chronicle.specs.Requests.{tree_told, with_entry, Granted}
 use Rattle.rx_syntax.specs.Shape.{Shape}
@@ -111,7 +111,7 @@ module _ {L : Type 0} {shape : Shape} {code : Block} {U : Given} {m : Machine L}
       ∙ (ap (λ (es : List Entry). es ++ Step mover.who.task act mover.batch ∷ []) a.but.shares.entries ∙ ap (λ (b : List (List ℕ)). G.entries ++ Step mover.who.task act b ∷ []) a.gone.batch)
 
   pub stores-after : (m' : Machine L) → Went m m' (Step mover.who.task act mover.batch) → StoresAre U.heap 0 m'.stores.items (slice_set G.journals here.0 a.events)
-  stores-after m' went = subst (λ (ss : List Kept). StoresAre U.heap 0 ss (slice_set G.journals here.0 a.events)) (ap (λ v. v.items) (sym went.stores)) a.stores
+  stores-after m' went = subst (λ (ss : List StoreView). StoresAre U.heap 0 ss (slice_set G.journals here.0 a.events)) (ap (λ v. v.items) (sym went.stores)) a.stores
 
   -- the entry stands, whatever becomes of the seat
   pub told-so : (m' : Machine L) → Went m m' (Step mover.who.task act mover.batch) → HasMade U k G m'

@@ -16,8 +16,8 @@ use Rattle.rx_machine.specs.declared.seat.Seat.{Seat}
 use Rattle.rx_machine.specs.declared.seat.Mover.{Mover}
 use Rattle.rx_machine.specs.Slots.{row_of, IsSeat}
 use Rattle.rx_machine.specs.Holds.{Acting}
-use Rattle.rx_sound.specs.Held.{is_held}
-use Rattle.rx_sound.proofs.Granting.{not_held}
+use Rattle.rx_tree_laws.specs.Held.{is_held}
+use Rattle.rx_tree_laws.proofs.Granting.{not_held}
 use Rattle.rx_machine.proofs.Live.{live_stands, live_number}
 use Rattle.rx_machine.proofs.Acted.{of-told, of-game}
 use Rattle.rx_rules.specs.declared.entries.Entry.{Entry}

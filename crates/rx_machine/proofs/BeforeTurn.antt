@@ -4,23 +4,23 @@ use Rattle.rx_rules.specs.declared.entries.Entry.{Entry}
 use Rattle.rx_base.proofs.Elements.{empty-from}
 use Rattle.rx_rules.specs.declared.tasks.Task.{Task}
 use Rattle.rx_rules.proofs.Common.{Block, work, Tree, quiet, the_root, without, Given, Proper, Event, plan_of, NoRoot, NoneDue, IsDue, Game, enabled, tree_in}
-use Rattle.rx_sound.specs.Sound.{ReachedSound}
-use Rattle.rx_sound.specs.Histories.{FoldReached}
-use Rattle.rx_sound.specs.Enabling.{IdleIsQuiet}
+use Rattle.rx_tree_laws.specs.Sound.{ReachedSound}
+use Rattle.rx_tree_laws.specs.Histories.{FoldReached}
+use Rattle.rx_tree_laws.specs.Enabling.{IdleIsQuiet}
 use Rattle.rx_runs.specs.Coming.{CameTo, GamesCome}
 use Rattle.rx_runs.specs.Segments.{plan_left}
 use Rattle.rx_runs.proofs.Endings.{root_empties}
 use Rattle.rx_history.specs.Setups.{given}
 use Rattle.rx_chronicle.specs.Requests.{plan_told, HasDue, Calm as NoneIs}
-use Rattle.rx_store.specs.Kept.{Kept}
+use Rattle.rx_store.specs.Kept.{StoreView}
 use Rattle.rx_store.specs.Kepts.{StoresAre}
 use Rattle.rx_syntax.specs.Shape.{Shape}
 use Rattle.rx_machine.specs.declared.machine.Machine.{Machine}
 use Rattle.rx_machine.specs.declared.seat.Seat.{Seat}
 use Rattle.rx_machine.specs.Slots.{row_of, seat_at, SlotIs}
-use Rattle.rx_machine.specs.Holds.{Seated, Holds, CanTurn}
-use Rattle.rx_machine.specs.Runs.{Calm, Falling, Taken}
-use Rattle.rx_machine.specs.Picking.{IsReady}
+use Rattle.rx_machine.specs.Holds.{Seated, MachineInvariant, CanTurn}
+use Rattle.rx_machine.specs.Runs.{ReadyForTurn, Falling, Taken}
+use Rattle.rx_machine.specs.Picking.{AreEnabled}
 use Rattle.rx_machine.proofs.Readying.{ready_slots}
 use Rattle.rx_machine.proofs.EnabledTasks.{able_from, enabled_rows, able_length, able_at}
 
@@ -36,7 +36,7 @@ seated-on {shape = shape} {U = U} {G = G} m m' entries setup seats stores failed
         slots = ap (λ v. length v.items) seats ∙ h.shares.slots;
         failed = failed ∙ h.shares.failed;
       };
-      stores = subst (λ (ss : List Kept). StoresAre U.heap 0 ss G.journals) (ap (λ v. v.items) (sym stores)) h.stores;
+      stores = subst (λ (ss : List StoreView). StoresAre U.heap 0 ss G.journals) (ap (λ v. v.items) (sym stores)) h.stores;
       seats = λ n. subst (λ (os : List (Option Seat)). SlotIs shape G.entries (tree_in U G) G.players n (seat_at os n)) (ap (λ v. v.items) (sym seats)) (h.seats n);
     }
 
@@ -76,7 +76,7 @@ falling {m = m} {G = G} e come can h =
     }
 
 -- and where none is, none is due in the game
-pub calm : {L : Type 0} {shape : Shape} {code : Block} {U : Given} {m : Machine L} {G : Game} → GamesCome → CanTurn shape code U m G → NoneIs m.chronicle → IsReady (tree_in U G) m.ready.members → Calm shape code U m G
+pub calm : {L : Type 0} {shape : Shape} {code : Block} {U : Given} {m : Machine L} {G : Game} → GamesCome → CanTurn shape code U m G → NoneIs m.chronicle → AreEnabled (tree_in U G) m.ready.members → ReadyForTurn shape code U m G
 calm {m = m} {G = G} come can none ready =
     let open_still : NoRoot m.chronicle.entries = subst (λ (es : List Entry). NoRoot es) (sym can.holds.shares.entries) can.unreleased in
     record {
@@ -96,7 +96,7 @@ pub record Releasing {L : Type 0} (shape : Shape) (code : Block) (U : Given) (m 
   pub none_left : (without (tree_in U G) the_root).tasks ≡ []
 
 -- where the numbers are none, no task is enabled, and the root may be released
-pub releasing : {L : Type 0} {shape : Shape} {code : Block} {U : Given} {m : Machine L} {G : Game} → ReachedSound → IdleIsQuiet → Calm shape code U m G → length m.ready.members ≡ 0 → Releasing shape code U m G
+pub releasing : {L : Type 0} {shape : Shape} {code : Block} {U : Given} {m : Machine L} {G : Game} → ReachedSound → IdleIsQuiet → ReadyForTurn shape code U m G → length m.ready.members ≡ 0 → Releasing shape code U m G
 releasing {shape = shape} {U = U} {m = m} {G = G} sound quiets quietly none =
     let can = quietly.can in
     let T : Tree = tree_in U G in
@@ -124,7 +124,7 @@ same-pick rows en k n x same size at =
     sym (ap (λ v. slice_get en (k % v)) (size ∙ ap length same)) ∙ (sym (ap (λ v. slice_get v (k % n)) same) ∙ at)
 
 -- the number at the pick is the slot of the task that the pick moves
-pub taken : {L : Type 0} (shape : Shape) (code : Block) (U : Given) (m : Machine L) (G : Game) (ns : List ℕ) (k i : ℕ) → ReachedSound → Calm shape code U m G → ns ≡ able_from (tree_in U G) 0 m.seats.items → slice_get ns (k % length ns) ≡ Some i → Taken shape code U m k i G
+pub taken : {L : Type 0} (shape : Shape) (code : Block) (U : Given) (m : Machine L) (G : Game) (ns : List ℕ) (k i : ℕ) → ReachedSound → ReadyForTurn shape code U m G → ns ≡ able_from (tree_in U G) 0 m.seats.items → slice_get ns (k % length ns) ≡ Some i → Taken shape code U m k i G
 taken shape code U m G ns k i sound quietly able at =
     let can = quietly.can in
     let T : Tree = tree_in U G in
@@ -142,7 +142,7 @@ taken shape code U m G ns k i sound quietly able at =
     }
 
 -- how many numbers are told is how many tasks are enabled
-pub counted : {L : Type 0} (shape : Shape) (code : Block) (U : Given) (m : Machine L) (G : Game) → GamesCome → FoldReached → ReachedSound → Holds shape code U m G → length m.ready.members ≡ length (enabled (tree_in U G))
+pub counted : {L : Type 0} (shape : Shape) (code : Block) (U : Given) (m : Machine L) (G : Game) → GamesCome → FoldReached → ReachedSound → MachineInvariant shape code U m G → length m.ready.members ≡ length (enabled (tree_in U G))
 counted shape code U m G come fold sound h =
     let T : Tree = tree_in U G in
     let can = can-turn shape code U m G come fold h.seated h.unreleased in

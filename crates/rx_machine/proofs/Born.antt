@@ -14,24 +14,24 @@ use Rattle.rx_rules.specs.declared.tasks.Blow.{Blow}
 use Rattle.rx_rules.specs.declared.entries.Act.{Act}
 use Rattle.rx_rules.specs.declared.entries.Entry.TheVariants.{Step}
 use Rattle.rx_rules.specs.Plays.{Fits}
-use Rattle.rx_sound.specs.Chains.{Opened, HasOpener}
-use Rattle.rx_sound.specs.Sound.{Sound, TasksFall}
+use Rattle.rx_tree_laws.specs.Chains.{Opened, HasOpener}
+use Rattle.rx_tree_laws.specs.Sound.{Sound, TasksFall}
 use Rattle.rx_syntax.specs.Shape.{Shape}
 use Rattle.rx_machine.specs.declared.machine.Machine.{Machine}
 use Rattle.rx_machine.specs.declared.seat.Seat.{Seat}
 use Rattle.rx_machine.specs.declared.seat.Mover.{Mover}
-use Rattle.rx_sound.specs.Held.{is_held, HeldInFront}
-use Rattle.rx_sound.specs.Spine.{Spine}
+use Rattle.rx_tree_laws.specs.Held.{is_held, HeldInFront}
+use Rattle.rx_tree_laws.specs.Spine.{Spine}
 use Rattle.rx_machine.specs.Slots.{row_of, seat_at, seat_in, live_task, if_unstruck, own_kinds, SlotIs, IsSeat, IsWork}
 use Rattle.rx_machine.specs.Holds.{Seated, Acting, LeadsTo}
 use Rattle.rx_machine.proofs.Acted.{Went, game_after, tree-after, turned, shared, stores-after}
 use Rattle.rx_machine.proofs.Finding.{same_or_not, get_other, get_before}
-use Rattle.rx_sound.proofs.Granting.{unheld-child}
-use Rattle.rx_sound.proofs.Holding.{unheld-front}
+use Rattle.rx_tree_laws.proofs.Granting.{unheld-child}
+use Rattle.rx_tree_laws.proofs.Holding.{unheld-front}
 use Rattle.rx_machine.proofs.Live.{none_above, live_number}
 use Rattle.rx_machine.proofs.Own.{own_scopes, newest, inner-newest, SameOwn, slot-on}
-use Rattle.rx_sound.proofs.SpineGrants.{flat-child}
-use Rattle.rx_sound.proofs.Spines.{flat-spine}
+use Rattle.rx_tree_laws.proofs.SpineGrants.{flat-child}
+use Rattle.rx_tree_laws.proofs.Spines.{flat-spine}
 use Rattle.rx_rules.specs.declared.entries.Entry.{Entry}
 use Rattle.rx_machine.specs.declared.seat.Work.{Work}
 

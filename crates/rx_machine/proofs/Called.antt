@@ -1,6 +1,11 @@
 -- The store call of a task.
 use Rattle.std.proofs.Common.{◌≡◌, ℕ, zero, suc, ◌+◌, ◌*◌, ◌^◌, ◌<◌, ◌≤◌, max, false, List, [], ◌∷◌, ◌++◌, reverse, length, Option, Some, None, Result, slice_get, slice_set, refl, ap, ◌∙◌, sym, subst, arith}
-use Rattle.rx_rules.proofs.Common.{PlaceId, TaskId, Value, Fault, Block, work, items, at, Answer, answered, vars_after, answer_of, does, begins, receives, State, opening_state, MayCell, after_cell, Tells, begun, journal_at, Given, in_all, Proper, death_number, Game, Player, Goes, stays, local, stores, tree_in}
+use Rattle.rx_rules.proofs.Common.{PlaceId, TaskId, Value, Fault, Block, work, items, at, Answer, answered, vars_after, answer_of, does, begins, receives, State, opening_state, MayCell, after_cell, Tells, begun, journal_at, Given, in_all, Proper, death_number, Game, Player, RunsWithoutEntry, stays, local, stores, tree_in}
+use Rattle.rx_rules.specs.declared.tasks.Task.{Task}
+use Rattle.rx_rules.specs.declared.tasks.Where.TheVariants.{At as IsAt}
+use Rattle.rx_rules.specs.declared.events.Cell.{Cell}
+use Rattle.rx_rules.specs.declared.events.PlaceEvent.{PlaceEvent}
+use Rattle.rx_rules.specs.declared.events.PlaceEvent.TheVariants.{Done as Did, Close}
 use Rattle.rx_base.proofs.SameIds.{place-is}
 use Rattle.rx_base.proofs.Elements.{get-set}
 use Rattle.rx_rules.specs.declared.tasks.Task.{Task}
@@ -17,7 +22,7 @@ use Rattle.rx_runs.specs.SomeWords.{TermMakesSome, ComesSome, GoesSome}
 use Rattle.rx_runs.proofs.Pairs.{pairs-get}
 use Rattle.rx_runs.proofs.Rows.{row-found}
 use Rattle.rx_syntax.specs.Shape.{Shape}
-use Rattle.rx_store.specs.Kept.{Kept, state_from, state_of, closed_from, ends_closed, stamp_from, last_stamp}
+use Rattle.rx_store.specs.Kept.{StoreView, state_from, state_of, closed_from, ends_closed, stamp_from, last_stamp}
 use Rattle.rx_store.specs.Answers.{event_told}
 use Rattle.rx_store.specs.declared.calls.Mark.{Mark}
 use Rattle.rx_store.proofs.Running.{state_done, closed_done, stamp_done}
@@ -27,23 +32,23 @@ use Rattle.rx_history.specs.Next.{next_of}
 use Rattle.rx_control.specs.Stands.{StandsFor}
 use Rattle.rx_machine.specs.declared.machine.Machine.{Machine}
 use Rattle.rx_machine.specs.declared.seat.Mover.{Mover}
-use Rattle.rx_sound.specs.Held.{is_held, HeldInFront}
+use Rattle.rx_tree_laws.specs.Held.{is_held, HeldInFront}
 use Rattle.rx_machine.specs.Slots.{row_of, live_task, own_kinds, seat_of}
 use Rattle.rx_store.specs.Kepts.{StoresAre}
 use Rattle.rx_machine.specs.Holds.{Acting}
 use Rattle.rx_machine.specs.Inside.Requests.{OnlyStores, AfterStep}
-use Rattle.rx_store.specs.Asked.{Asked}
+use Rattle.rx_store.specs.Asked.{CallMade}
 use Rattle.rx_machine.proofs.Live.{live_stands}
-use Rattle.rx_sound.proofs.Beginning.{begins-so, begun_one}
-use Rattle.rx_sound.proofs.Receiving.{call-so}
+use Rattle.rx_tree_laws.proofs.Beginning.{begins-so, begun_one}
+use Rattle.rx_tree_laws.proofs.Receiving.{call-so}
 use Rattle.rx_store.proofs.StoreCalls.{IsCall, is_call}
-use Rattle.rx_sound.proofs.SpineGrants.{answer_spine, begun_is}
+use Rattle.rx_tree_laws.proofs.SpineGrants.{answer_spine, begun_is}
 use Rattle.rx_machine.proofs.Stepping.{goes-stores, acting-on, moved-seat}
-use Rattle.rx_sound.proofs.Granting.{answer_waits, not_held}
+use Rattle.rx_tree_laws.proofs.Granting.{answer_waits, not_held}
 
 -- Stores by their places.
 
-pub stores-at : (heap p : ℕ) (ss : List Kept) (js : List (List PlaceEvent)) (n : ℕ) (j : List PlaceEvent) → StoresAre heap p ss js → slice_get js n ≡ Some j → (s : Kept) × (slice_get ss n ≡ Some s) × (s.place.0 ≡ p + n) × (s.words ≡ heap) × (s.events ≡ j)
+pub stores-at : (heap p : ℕ) (ss : List StoreView) (js : List (List PlaceEvent)) (n : ℕ) (j : List PlaceEvent) → StoresAre heap p ss js → slice_get js n ≡ Some j → (s : StoreView) × (slice_get ss n ≡ Some s) × (s.place.0 ≡ p + n) × (s.words ≡ heap) × (s.events ≡ j)
 stores-at heap p [] [] n j h e = absurd (let f : ⊥ = cc in f)
 stores-at heap p (s ∷ ss) (l ∷ js) zero j h e = (s, refl, (let w : s.place.0 ≡ p = h.0 in omega (arith, w)), h.1, h.2 ∙ (let w : l ≡ j = cc in w))
 stores-at heap p (s ∷ ss) (l ∷ js) (suc n) j h e =
@@ -51,7 +56,7 @@ stores-at heap p (s ∷ ss) (l ∷ js) (suc n) j h e =
 stores-at heap p [] (l ∷ js) n j h e = absurd h
 stores-at heap p (s ∷ ss) [] n j h e = absurd h
 
-pub stores-set : (heap p : ℕ) (ss : List Kept) (js : List (List PlaceEvent)) (n : ℕ) (s : Kept) (j : List PlaceEvent) → StoresAre heap p ss js → s.place.0 ≡ p + n → s.words ≡ heap → s.events ≡ j → StoresAre heap p (slice_set ss n s) (slice_set js n j)
+pub stores-set : (heap p : ℕ) (ss : List StoreView) (js : List (List PlaceEvent)) (n : ℕ) (s : StoreView) (j : List PlaceEvent) → StoresAre heap p ss js → s.place.0 ≡ p + n → s.words ≡ heap → s.events ≡ j → StoresAre heap p (slice_set ss n s) (slice_set js n j)
 stores-set heap p [] [] n s j h at words events = tt
 stores-set heap p (t ∷ ss) (l ∷ js) zero s j h at words events = ((let w : s.place.0 ≡ p + 0 = at in omega (arith, w)), words, events, h.3)
 stores-set heap p (t ∷ ss) (l ∷ js) (suc n) s j h at words events = (h.0, h.1, h.2, stores-set heap (suc p) ss js n s j h.3 (let w : s.place.0 ≡ p + suc n = at in omega (arith, w)) words events)
@@ -84,7 +89,7 @@ stamp-most n s [] le h = le
 stamp-most n s (Did task stamp cell path ∷ j) le h = stamp-most n stamp j h.0 h.1
 stamp-most n s (Close stamp ∷ j) le h = stamp-most n stamp j h.0 h.1
 
-goes-is : {heap n : ℕ} {t : TaskId} {here : PlaceId} {p q : Player} {S Z : State} {j k : List PlaceEvent} → Goes heap n t here p S j q Z k → JournalIs n S j → JournalIs n Z k
+goes-is : {heap n : ℕ} {t : TaskId} {here : PlaceId} {p q : Player} {S Z : State} {j k : List PlaceEvent} → RunsWithoutEntry heap n t here p S j q Z k → JournalIs n S j → JournalIs n Z k
 goes-is stays h = h
 goes-is (local e g) h = goes-is g h
 goes-is {n = n} {t = t} {j = j} (stores cell x a told b may g) h =
@@ -110,7 +115,7 @@ journal-is code U G i row here S ok live is_at place store =
     subst (λ (v : State). JournalIs (length G.entries) v (journal_at G.journals here.0)) same (subst (λ (l : List PlaceEvent). JournalIs (length G.entries) both.right l) journal is)
 
 -- the store of the place of a task that acts has the words of the heap, and the events of its walk
-pub record StoreIs {L : Type 0} (U : Given) (m : Machine L) (here : PlaceId) (G : Game) (Z : State) (l : List PlaceEvent) (old : Kept) : Type 0 where
+pub record StoreIs {L : Type 0} (U : Given) (m : Machine L) (here : PlaceId) (G : Game) (Z : State) (l : List PlaceEvent) (old : StoreView) : Type 0 where
   pub found : slice_get m.stores.items here.0 ≡ Some old
   pub place : old.place ≡ here
   pub words : old.words ≡ U.heap
@@ -135,7 +140,7 @@ module _ {L : Type 0} {shape : Shape} {code : Block} {U : Given} {m : Machine L}
       is_call q.term here op (does q.vars here.0 q.term) e (begins-so q.vars here.0 q.term) (call-so q.vars here.0 q.term) (both.1 q.vars) (sink q.vars here.0 q.term)
 
   -- the store of the place
-  pub store_is : GamesCome → (old : Kept) × StoreIs U m here G a.left a.events old
+  pub store_is : GamesCome → (old : StoreView) × StoreIs U m here G a.left a.events old
   store_is come =
       let came : CameTo code U G = come code U G a.but.shares.on.proper a.but.shares.comes a.pick.stands in
       let ok = came.ok in
@@ -176,7 +181,7 @@ module _ {L : Type 0} {shape : Shape} {code : Block} {U : Given} {m : Machine L}
       let same : length m.chronicle.entries ≡ length G.entries = ap length a.but.shares.entries in omega (arith, few, most, places, same)
 
   -- a store call lengthens the walk by its event
-  pub call-told : (op : CellOp) (answer : Result (Option Value) Fault) (x : List ℕ) (old new : Kept) (mark : Mark) (items : List Kept) → IsCall q.term here op (does q.vars here.0 q.term) → begins q.term ≡ Some x → next_of (does q.vars here.0 q.term) ≡ CellStep op → StoreIs U m here G a.left a.events old → items ≡ slice_set m.stores.items here.0 new → mark.task ≡ mover.who.task → mark.stamp ≡ length G.entries → mark.path ≡ x → Asked old new mark op answer → (Z : State) × (l : List PlaceEvent) × Goes U.heap (length G.entries) mover.who.task here a.began a.store (journal_at G.journals here.0) (record { term = answered (answer_of (receives q.term) answer) q.term; vars = vars_after (answer_of (receives q.term) answer) q.vars; batch = begun q.term q.batch }) Z l × StoresAre U.heap 0 items (slice_set G.journals here.0 l)
+  pub call-told : (op : CellOp) (answer : Result (Option Value) Fault) (x : List ℕ) (old new : StoreView) (mark : Mark) (items : List StoreView) → IsCall q.term here op (does q.vars here.0 q.term) → begins q.term ≡ Some x → next_of (does q.vars here.0 q.term) ≡ CellStep op → StoreIs U m here G a.left a.events old → items ≡ slice_set m.stores.items here.0 new → mark.task ≡ mover.who.task → mark.stamp ≡ length G.entries → mark.path ≡ x → CallMade old new mark op answer → (Z : State) × (l : List PlaceEvent) × RunsWithoutEntry U.heap (length G.entries) mover.who.task here a.began a.store (journal_at G.journals here.0) (record { term = answered (answer_of (receives q.term) answer) q.term; vars = vars_after (answer_of (receives q.term) answer) q.vars; batch = begun q.term q.batch }) Z l × StoresAre U.heap 0 items (slice_set G.journals here.0 l)
   call-told op answer x old new mark items c b e is put task stamp path asked =
       let t : TaskId = mover.who.task in
       let ans : Answer = answer_of (receives q.term) answer in
@@ -190,11 +195,11 @@ module _ {L : Type 0} {shape : Shape} {code : Block} {U : Given} {m : Machine L}
       let events : new.events ≡ longer = asked.events ∙ (ap (λ v. old.events ++ v ∷ []) event ∙ ap (λ l. l ++ Did t (length G.entries) cell x ∷ []) is.events) in
       let place : new.place.0 ≡ 0 + here.0 = (let w : new.place.0 ≡ here.0 = ap (λ (p : PlaceId). p.0) (asked.place ∙ is.place) in omega (arith, w)) in
       let kept : StoresAre U.heap 0 (slice_set m.stores.items here.0 new) (slice_set (slice_set G.journals here.0 a.events) here.0 longer) = stores-set U.heap 0 m.stores.items (slice_set G.journals here.0 a.events) here.0 new longer a.stores place (asked.words ∙ is.words) events in
-      let stored : StoresAre U.heap 0 items (slice_set G.journals here.0 longer) = subst (λ (ss : List Kept). StoresAre U.heap 0 ss (slice_set G.journals here.0 longer)) (sym put) (subst (λ (js : List (List PlaceEvent)). StoresAre U.heap 0 (slice_set m.stores.items here.0 new) js) (set-twice G.journals here.0 a.events longer) kept) in
+      let stored : StoresAre U.heap 0 items (slice_set G.journals here.0 longer) = subst (λ (ss : List StoreView). StoresAre U.heap 0 ss (slice_set G.journals here.0 longer)) (sym put) (subst (λ (js : List (List PlaceEvent)). StoresAre U.heap 0 (slice_set m.stores.items here.0 new) js) (set-twice G.journals here.0 a.events longer) kept) in
       (after_cell a.left cell, longer, goes-stores cell x ans a.gone.goes told b may, stored)
 
   -- and the task goes on with its answer
-  pub called : (m' : Machine L) (mover' : Mover) (op : CellOp) (answer : Result (Option Value) Fault) (x : List ℕ) (old new : Kept) (mark : Mark) → IsCall q.term here op (does q.vars here.0 q.term) → begins q.term ≡ Some x → next_of (does q.vars here.0 q.term) ≡ CellStep op → StoreIs U m here G a.left a.events old → OnlyStores m m' → m'.stores.items ≡ slice_set m.stores.items here.0 new → mark.task ≡ mover.who.task → mark.stamp ≡ length G.entries → mark.path ≡ x → Asked old new mark op answer → StandsFor shape mover'.control.value (answered (answer_of (receives q.term) answer) q.term) → mover'.control.value.vars ≡ vars_after (answer_of (receives q.term) answer) mover.control.value.vars → mover'.batch ≡ mover.batch ++ x ∷ [] → mover'.who ≡ mover.who → mover'.waits ≡ mover.waits → AfterStep shape code U m' k i here q mover' G None
+  pub called : (m' : Machine L) (mover' : Mover) (op : CellOp) (answer : Result (Option Value) Fault) (x : List ℕ) (old new : StoreView) (mark : Mark) → IsCall q.term here op (does q.vars here.0 q.term) → begins q.term ≡ Some x → next_of (does q.vars here.0 q.term) ≡ CellStep op → StoreIs U m here G a.left a.events old → OnlyStores m m' → m'.stores.items ≡ slice_set m.stores.items here.0 new → mark.task ≡ mover.who.task → mark.stamp ≡ length G.entries → mark.path ≡ x → CallMade old new mark op answer → StandsFor shape mover'.control.value (answered (answer_of (receives q.term) answer) q.term) → mover'.control.value.vars ≡ vars_after (answer_of (receives q.term) answer) mover.control.value.vars → mover'.batch ≡ mover.batch ++ x ∷ [] → mover'.who ≡ mover.who → mover'.waits ≡ mover.waits → AfterStep shape code U m' k i here q mover' G None
   called m' mover' op answer x old new mark c b e is only put task stamp path asked term vars batch who waits =
       let ans : Answer = answer_of (receives q.term) answer in
       let s = a.gone.seat_is in

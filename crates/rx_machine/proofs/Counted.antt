@@ -11,19 +11,19 @@ use Rattle.rx_control.specs.Stands.{StandsFor}
 use Rattle.rx_machine.specs.declared.machine.Machine.{Machine}
 use Rattle.rx_machine.specs.declared.seat.Mover.{Mover}
 use Rattle.rx_machine.specs.Slots.{row_of, own_kinds, seat_of}
-use Rattle.rx_sound.specs.Held.{is_held}
+use Rattle.rx_tree_laws.specs.Held.{is_held}
 use Rattle.rx_machine.specs.Holds.{Seated, Acting, LeadsTo}
 use Rattle.rx_machine.specs.Refusals.{HasMade}
 use Rattle.rx_machine.proofs.Acted.{went, of-game, told-so, acted}
 use Rattle.rx_machine.proofs.Asking.{asks-free}
-use Rattle.rx_sound.proofs.Beginning.{begins-so}
-use Rattle.rx_sound.specs.TermSteps.{Begins}
-use Rattle.rx_sound.proofs.Granting.{AfterGrant, after-grant}
-use Rattle.rx_sound.proofs.SpineGrants.{GrantsSpine, spine-grant}
+use Rattle.rx_tree_laws.proofs.Beginning.{begins-so}
+use Rattle.rx_tree_laws.specs.TermSteps.{BeginsStatement}
+use Rattle.rx_tree_laws.proofs.Granting.{AfterGrant, after-grant}
+use Rattle.rx_tree_laws.proofs.SpineGrants.{GrantsSpine, spine-grant}
 
 -- the statement that counts
 pub census-begins : (q : Player) (here : ℕ) (name : ℕ) → does q.vars here q.term ≡ Counts name → (x : List ℕ) × (begins q.term ≡ Some x)
-census-begins q here name asks = subst (λ (d : Does). Begins d (begins q.term)) asks (begins-so q.vars here q.term)
+census-begins q here name asks = subst (λ (d : Does). BeginsStatement d (begins q.term)) asks (begins-so q.vars here q.term)
 
 module _ {L : Type 0} {shape : Shape} {code : Block} {U : Given} {m : Machine L} {k i : ℕ} {here : PlaceId} {q : Player} {mover : Mover} {G : Game} (a : Acting shape code U m k i here q mover G) (name : ℕ) (asks : does q.vars here.0 q.term ≡ Counts name) (n : ℕ) (x : List ℕ) (path : begins q.term ≡ Some x) where
   fits-census : Fits here q.term (does q.vars here.0 q.term) (Census n x)

@@ -16,7 +16,7 @@ use Rattle.rx_runs.proofs.Pairs.{pairs-get, journal_got}
 use Rattle.rx_history.specs.Logs.{Log}
 use Rattle.rx_history.specs.Setups.{given}
 use Rattle.rx_chronicle.specs.Requests.{with_entry}
-use Rattle.rx_store.specs.Kept.{Kept, ends_closed, last_stamp}
+use Rattle.rx_store.specs.Kept.{StoreView, ends_closed, last_stamp}
 use Rattle.rx_syntax.specs.Shape.{Shape}
 use Rattle.rx_machine.specs.declared.machine.Machine.{Machine}
 use Rattle.rx_machine.specs.declared.seat.Seat.{Seat}
@@ -75,7 +75,7 @@ none-beyond (o ∷ seats) zero h = absurd (omega (arith, h))
 none-beyond (o ∷ seats) (suc n) h = none-beyond seats n (omega (arith, h))
 
 -- the store of the place is open
-pub record IsOpen (n : ℕ) (d : PlaceId) (heap : ℕ) (items : List Kept) (j : List PlaceEvent) (s : Kept) : Type 0 where
+pub record IsOpen (n : ℕ) (d : PlaceId) (heap : ℕ) (items : List StoreView) (j : List PlaceEvent) (s : StoreView) : Type 0 where
   pub found : slice_get items d.0 ≡ Some s
   pub place : s.place.0 ≡ d.0
   pub words : s.words ≡ heap
@@ -91,7 +91,7 @@ HasFallen shape code U m k G = LeadsTo (Turn U k G false) (λ G'. Seated shape c
 pub record Fell {L : Type 0} (m m' : Machine L) (d : PlaceId) (n : ℕ) : Type 0 where
   pub told : m'.chronicle ≡ with_entry m.chronicle (Death d)
   pub failed : m'.failed ≡ m.failed
-  pub stores : (s : Kept) → slice_get m.stores.items d.0 ≡ Some s → m'.stores.items ≡ slice_set m.stores.items d.0 (record s { events = s.events ++ Close n ∷ [] })
+  pub stores : (s : StoreView) → slice_get m.stores.items d.0 ≡ Some s → m'.stores.items ≡ slice_set m.stores.items d.0 (record s { events = s.events ++ Close n ∷ [] })
   pub many : length m'.seats.items ≡ length m.seats.items
   pub each : (i : ℕ) → seat_at m'.seats.items i ≡ left_by d (seat_at m.seats.items i)
 
@@ -105,7 +105,7 @@ module _ {L : Type 0} {shape : Shape} {code : Block} {U : Given} {m : Machine L}
   stored : d.0 < in_all U
   stored = let here : d.0 < (tree_in U G).places = due.inside in let most : (tree_in U G).places ≤ in_all U = came.ok.ties.within in omega (arith, here, most)
 
-  pub store-open : (s : Kept) × IsOpen (length G.entries) d U.heap m.stores.items (journal_at G.journals d.0) s
+  pub store-open : (s : StoreView) × IsOpen (length G.entries) d U.heap m.stores.items (journal_at G.journals d.0) s
   store-open =
       let low : d.0 < length G.journals = subst (λ (n : ℕ). d.0 < n) (sym came.ok.one_each) stored in
       let both = pairs-get 0 d.0 G.journals G.stores low came.ok.journals in
@@ -133,7 +133,7 @@ module _ {L : Type 0} {shape : Shape} {code : Block} {U : Given} {m : Machine L}
       let turn : Turn U k G false G' = due_turn (Death d) t.due in
       let same : strike b (tree_in U G) ≡ tree_in U G' = sym (tree-push U.places G.entries (Death d)) in
       let s = store-open in
-      let s' : Kept = record s.0 { events = s.0.events ++ Close (length G.entries) ∷ [] } in
+      let s' : StoreView = record s.0 { events = s.0.events ++ Close (length G.entries) ∷ [] } in
       let at : s'.place.0 ≡ 0 + d.0 = (let w : s.0.place.0 ≡ d.0 = s.1.place in omega (arith, w)) in
       let events : s'.events ≡ j = ap (λ (es : List PlaceEvent). es ++ Close (length G.entries) ∷ []) s.1.events in (
         G',
@@ -148,7 +148,7 @@ module _ {L : Type 0} {shape : Shape} {code : Block} {U : Given} {m : Machine L}
               slots = f.many ∙ (h.shares.slots ∙ ap (λ (T : Tree). T.next_task) same);
               failed = f.failed ∙ h.shares.failed;
             };
-            stores = subst (λ (ss : List Kept). StoresAre U.heap 0 ss (slice_set G.journals d.0 j)) (sym (f.stores s.0 s.1.found)) (stores-set U.heap 0 m.stores.items G.journals d.0 s' j h.stores at s.1.words events);
+            stores = subst (λ (ss : List StoreView). StoresAre U.heap 0 ss (slice_set G.journals d.0 j)) (sym (f.stores s.0 s.1.found)) (stores-set U.heap 0 m.stores.items G.journals d.0 s' j h.stores at s.1.words events);
             seats = λ i.
                 subst (λ (T : Tree). SlotIs shape G'.entries T G.players i (seat_at m'.seats.items i)) same
                 (subst (λ (o : Option Seat). SlotIs shape G'.entries (strike b (tree_in U G)) G.players i o) (sym (f.each i)) (slot-struck shape G.entries (Death d) (tree_in U G) b G.players i (seat_at m.seats.items i) (h.seats i)));

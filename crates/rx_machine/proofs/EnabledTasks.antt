@@ -3,9 +3,10 @@ use Rattle.std.proofs.Common.{◌≡◌, ℕ, zero, suc, ◌+◌, ◌-◌, ◌<�
 use Rattle.std.specs.List.{find}
 use Rattle.std.proofs.lemmas.Bool.{eq-eqb, ne_eqb}
 use Rattle.std.proofs.lemmas.List.{reverse-append, append-nil}
-use Rattle.rx_rules.specs.declared.tasks.Task.{Task}
 use Rattle.rx_rules.proofs.Common.{Tree, is_task, task_of, quiet, inner, is_enabled, enabled, Player}
-use Rattle.rx_sound.specs.Sound.{TasksFall}
+use Rattle.rx_rules.specs.declared.tasks.Task.{Task}
+use Rattle.rx_rules.specs.declared.entries.Entry.{Entry}
+use Rattle.rx_tree_laws.specs.Sound.{TasksFall}
 use Rattle.rx_syntax.specs.Shape.{Shape}
 use Rattle.rx_machine.specs.declared.seat.Seat.{Seat}
 use Rattle.rx_machine.specs.Slots.{row_of, seat_at, live_task, live_in, SlotIs}

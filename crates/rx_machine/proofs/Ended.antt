@@ -15,7 +15,7 @@ use Rattle.rx_finish.specs.Callers.{IsBare, MayAskEnd}
 use Rattle.rx_history.specs.Logs.{Log}
 use Rattle.rx_history.specs.Setups.{given}
 use Rattle.rx_chronicle.specs.Requests.{tree_told, Granted}
-use Rattle.rx_store.specs.Kept.{Kept}
+use Rattle.rx_store.specs.Kept.{StoreView}
 use Rattle.rx_syntax.specs.Shape.{Shape}
 use Rattle.rx_machine.specs.declared.machine.Machine.{Machine}
 use Rattle.rx_machine.specs.declared.seat.Seat.{Seat}
@@ -28,7 +28,7 @@ use Rattle.rx_machine.proofs.Live.{less-same, less-other, without_task}
 use Rattle.rx_machine.proofs.Own.{end-tasks, end-own, slot-on}
 use Rattle.rx_machine.proofs.Acted.{went, of-told, of-game}
 use Rattle.rx_machine.proofs.Asking.{seat-id, seat-found, seat_asks, moving, asks-free}
-use Rattle.rx_sound.proofs.SpineGrants.{EmptyWhereDone, spine-done}
+use Rattle.rx_tree_laws.proofs.SpineGrants.{EmptyWhereDone, spine-done}
 
 -- where no scope passes, none is found
 none-found : (p : Scope → Bool) (gs : List Scope) → map (λ g. g.kind) (filter p gs) ≡ [] → find p gs ≡ None
@@ -87,7 +87,7 @@ module _ {L : Type 0} {shape : Shape} {code : Block} {U : Given} {m : Machine L}
             slots = ap (λ xs. length xs) back ∙ (h.slots ∙ (sym (end-next T t fs x found) ∙ ap (λ (V : Tree). V.next_task) same));
             failed = e.failed ∙ h.failed;
           };
-          stores = subst (λ (ss : List Kept). StoresAre U.heap 0 ss (slice_set G.journals here.0 a.events)) (ap (λ v. v.items) (sym e.stores)) a.stores;
+          stores = subst (λ (ss : List StoreView). StoresAre U.heap 0 ss (slice_set G.journals here.0 a.events)) (ap (λ v. v.items) (sym e.stores)) a.stores;
           seats = λ n.
               subst (λ (V : Tree). SlotIs shape G'.entries V G.players n (seat_at m'.seats.items n)) same
               (subst (λ (xs : List (Option Seat)). SlotIs shape G'.entries T' G.players n (seat_at xs n)) (sym back)

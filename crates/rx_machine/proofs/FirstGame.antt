@@ -1,20 +1,20 @@
 -- What a machine holds before the first turn.
 use Rattle.std.proofs.Common.{◌≡◌, ◌≢◌, ◌==◌, ℕ, zero, suc, ◌≤◌, ◌||◌, Bool, true, false, cond, List, [], ◌∷◌, length, replicate, Option, Some, None, refl, ap, ◌∙◌, sym, subst, arith}
 use Rattle.std.proofs.lemmas.Bool.{ne_eqb}
+use Rattle.rx_rules.proofs.Common.{Block, Empty, items, no_vars, inner, the_root, opening, Given, in_all, Player, MadeByTurns, start_game, tree_in}
 use Rattle.rx_rules.specs.declared.tasks.Task.{Task}
-use Rattle.rx_rules.proofs.Common.{Block, Empty, items, no_vars, inner, the_root, opening, Given, in_all, Player, Comes, start_game, tree_in}
 use Rattle.rx_history.specs.Setups.{given}
 use Rattle.rx_syntax.specs.Shape.{Shape}
 use Rattle.rx_machine.specs.declared.machine.Machine.{Machine}
 use Rattle.rx_machine.specs.declared.seat.Seat.{Seat}
-use Rattle.rx_sound.specs.Held.{is_held, HeldInFront}
+use Rattle.rx_tree_laws.specs.Held.{is_held, HeldInFront}
 use Rattle.rx_machine.specs.Slots.{row_of, seat_at, SlotIs, live_in, root_row, IsWork}
-use Rattle.rx_sound.specs.Enabling.{able_in}
-use Rattle.rx_machine.specs.Picking.{IsReady}
+use Rattle.rx_tree_laws.specs.Enabling.{able_in}
+use Rattle.rx_machine.specs.Picking.{AreEnabled}
 use Rattle.rx_store.specs.Kepts.{StoresAre}
 use Rattle.rx_machine.specs.Holds.{RunsOn, Seated}
-use Rattle.rx_sound.proofs.Holding.{unheld-front, unheld-items}
-use Rattle.rx_sound.proofs.Spines.{flat-spine, flat-items}
+use Rattle.rx_tree_laws.proofs.Holding.{unheld-front, unheld-items}
+use Rattle.rx_tree_laws.proofs.Spines.{flat-spine, flat-items}
 
 -- the main activity before its first step
 abbrev pub first : Block → ℕ → Player
@@ -47,7 +47,7 @@ opens-so shape code U m seat on setup entries failed stores seats row inside wor
     record {
       shares = record {
         on = on;
-        comes = Comes.opens;
+        comes = MadeByTurns.opens;
         setup = setup;
         entries = entries;
         slots = ap (λ v. length v) seats;
@@ -58,9 +58,9 @@ opens-so shape code U m seat on setup entries failed stores seats row inside wor
     }
 
 -- the main activity alone is enabled
-pub opens-ready : (code : Block) (U : Given) (ns : List ℕ) → ns ≡ 0 ∷ [] → IsReady (tree_in U (start_game code U)) ns
+pub opens-ready : (code : Block) (U : Given) (ns : List ℕ) → ns ≡ 0 ∷ [] → AreEnabled (tree_in U (start_game code U)) ns
 opens-ready code U ns e =
-    subst (IsReady (tree_in U (start_game code U))) (sym e) (
+    subst (AreEnabled (tree_in U (start_game code U))) (sym e) (
       ((let r : 0 ≤ 0 = omega arith in r), tt),
       λ n. elim (0 == n) as (λ b. (b || false) ≡ able_in (opening U.places) (cond b (Some root_row) None)) [ true ↦ refl | false ↦ refl ],
     )

@@ -2,7 +2,15 @@
 use Rattle.std.proofs.Common.{◌≡◌, ℕ, zero, suc, ◌%◌, Bool, true, List, [], ◌∷◌, ◌++◌, map, length, Option, Some, Result, slice_get, slice_set, refl, ap, ◌∙◌, sym, subst, inl, inr}
 use Rattle.std.proofs.lemmas.List.{append-nil, append_assoc}
 use mathlib.Core.List.{IsPrefix}
-use Rattle.rx_rules.proofs.Common.{PlaceId, TaskId, Value, Fault, Block, Term, Vars, Answer, answered, vars_after, begins, Local, does, Tree, task_of, State, after_cell, Tells, begun, journal_at, AllowedAct, Given, Proper, NoRoot, Game, Player, Turn, planned as due, arrives, moves, root, Comes, Goes, stays, local, stores, enabled, tree_in}
+use Rattle.rx_rules.proofs.Common.{PlaceId, TaskId, Value, Fault, Block, Term, Vars, Answer, answered, vars_after, begins, Local, does, Tree, task_of, State, after_cell, Tells, begun, journal_at, AllowedAct, Given, Proper, NoRoot, Game, Player, Turn, planned as due, arrives, moves, root, MadeByTurns, RunsWithoutEntry, stays, local, stores, enabled, tree_in}
+use Rattle.rx_rules.specs.declared.tasks.Task.{Task}
+use Rattle.rx_rules.specs.declared.tasks.Where.TheVariants.{At, Travel}
+use Rattle.rx_rules.specs.declared.entries.Entry.{Entry}
+use Rattle.rx_rules.specs.declared.entries.Entry.TheVariants.{Step, Root, Death, Join}
+use Rattle.rx_rules.specs.declared.entries.Act.TheVariants.{Arrive, End}
+use Rattle.rx_rules.specs.declared.events.Cell.{Cell}
+use Rattle.rx_rules.specs.declared.events.PlaceEvent.{PlaceEvent}
+use Rattle.rx_rules.specs.declared.events.PlaceEvent.TheVariants.{Done as Did, Close}
 use Rattle.rx_base.proofs.Elements.{not-empty}
 use Rattle.rx_rules.specs.declared.tasks.Task.{Task}
 use Rattle.rx_rules.specs.declared.tasks.Where.TheVariants.{At, Travel}
@@ -14,10 +22,10 @@ use Rattle.rx_rules.specs.declared.events.PlaceEvent.{PlaceEvent}
 use Rattle.rx_rules.specs.declared.events.PlaceEvent.TheVariants.{Done as Did, Close}
 use Rattle.rx_rules.specs.Picked.{ends}
 use Rattle.rx_rules.proofs.Kills.{due-not}
-use Rattle.rx_runs.specs.Coming.{GoesOn}
+use Rattle.rx_runs.specs.Coming.{GamesGoOn}
 use Rattle.rx_runs.proofs.Walks.{IsLast, fits_last, tells_not}
 use Rattle.rx_runs.proofs.Telling.{tell_once}
-use Rattle.rx_store.specs.Kept.{Kept}
+use Rattle.rx_store.specs.Kept.{StoreView}
 use Rattle.rx_store.specs.declared.calls.Mark.{Mark}
 use Rattle.rx_syntax.specs.Shape.{Shape}
 use Rattle.rx_history.specs.Logs.{Log}
@@ -31,7 +39,7 @@ use Rattle.rx_machine.specs.Slots.{row_of, seat_of}
 use Rattle.rx_store.specs.Kepts.{StoresAre}
 use Rattle.rx_machine.specs.Holds.{Seated, Acting, Landing}
 use Rattle.rx_machine.specs.Refusals.{BeginEach, HasBegun, HasTold, HasMade, HasStopped, NothingMore}
-use Rattle.rx_store.specs.Asked.{Asked}
+use Rattle.rx_store.specs.Asked.{CallMade}
 use Rattle.rx_store.proofs.StoreCalls.{IsCall}
 use Rattle.rx_machine.proofs.Called.{StoreIs, call-told}
 use Rattle.rx_machine.proofs.Asking.{id_of}
@@ -41,13 +49,13 @@ use Rattle.rx_store.proofs.Journals.{journals_are}
 -- Walks.
 
 -- a walk only adds events
-goes-more : {heap n : ℕ} {t : TaskId} {here : PlaceId} {p q : Player} {S Z : State} {j k : List PlaceEvent} → Goes heap n t here p S j q Z k → IsPrefix j k
+goes-more : {heap n : ℕ} {t : TaskId} {here : PlaceId} {p q : Player} {S Z : State} {j k : List PlaceEvent} → RunsWithoutEntry heap n t here p S j q Z k → IsPrefix j k
 goes-more {j = j} stays = ([], append-nil j)
 goes-more (local e g) = goes-more g
 goes-more {n = n} {t = t} {j = j} (stores cell x a told b may g) = let r = goes-more g in (Did t n cell x ∷ r.0, sym (append_assoc j (Did t n cell x ∷ []) r.0) ∙ r.1)
 
 -- the events of a part of a walk begin those of the whole walk
-goes-part : {heap n : ℕ} {t : TaskId} {here : PlaceId} {p q r : Player} {S Z W : State} {j k l : List PlaceEvent} → Goes heap n t here p S j q Z k → Goes heap n t here p S j r W l → IsLast (does r.vars here.0 r.term) → IsPrefix k l
+goes-part : {heap n : ℕ} {t : TaskId} {here : PlaceId} {p q r : Player} {S Z W : State} {j k l : List PlaceEvent} → RunsWithoutEntry heap n t here p S j q Z k → RunsWithoutEntry heap n t here p S j r W l → IsLast (does r.vars here.0 r.term) → IsPrefix k l
 goes-part stays h b = goes-more h
 goes-part (local {after = u} {left = v} e g) stays b = absurd (subst IsLast e b)
 goes-part {heap = heap} {n = n} {t = t} {here = here} {p = p} {r = r} {S = S} {W = W} {j = j} {l = l} (local {after = u} {left = v} e g) (local {after = x} {left = y} f h) b =
@@ -55,20 +63,20 @@ goes-part {heap = heap} {n = n} {t = t} {here = here} {p = p} {r = r} {S = S} {W
     let term : u ≡ x = cc in
     let vars : v ≡ y = cc in
     goes-part g
-    (subst (λ (w : Vars). Goes heap n t here (record { term = u; vars = w; batch = begun p.term p.batch }) S j r W l) (sym vars)
-    (subst (λ (w : Term). Goes heap n t here (record { term = w; vars = y; batch = begun p.term p.batch }) S j r W l) (sym term) h)) b
+    (subst (λ (w : Vars). RunsWithoutEntry heap n t here (record { term = u; vars = w; batch = begun p.term p.batch }) S j r W l) (sym vars)
+    (subst (λ (w : Term). RunsWithoutEntry heap n t here (record { term = w; vars = y; batch = begun p.term p.batch }) S j r W l) (sym term) h)) b
 goes-part {here = here} (local {after = u} {left = v} e g) (stores cell x w tells at may h) b = absurd (subst (λ d. Tells d here cell w) e tells)
 goes-part {here = here} (stores cell x w tells at may g) stays b = absurd (tells_not _ here cell w tells b)
 goes-part {here = here} (stores cell x w tells at may g) (local e h) b = absurd (subst (λ d. Tells d here cell w) e tells)
 goes-part {heap = heap} {n = n} {t = t} {here = here} {p = p} {r = r} {S = S} {W = W} {j = j} {l = l} (stores cell x w tells at may g) (stores cell2 x2 w2 tells2 at2 may2 h) b =
     let both = tell_once heap S here (does p.vars here.0 p.term) cell cell2 w w2 tells tells2 may may2 in
     let path : x ≡ x2 = (let e : Some x ≡ Some x2 = sym at ∙ at2 in cc) in
-    let one : Goes heap n t here (record { term = answered w2 p.term; vars = vars_after w2 p.vars; batch = begun p.term p.batch }) (after_cell S cell) (j ++ Did t n cell x2 ∷ []) r W l =
-    subst (λ (v : Cell). Goes heap n t here (record { term = answered w2 p.term; vars = vars_after w2 p.vars; batch = begun p.term p.batch }) (after_cell S v) (j ++ Did t n v x2 ∷ []) r W l) (sym both.0) h in
-    let two : Goes heap n t here (record { term = answered w2 p.term; vars = vars_after w2 p.vars; batch = begun p.term p.batch }) (after_cell S cell) (j ++ Did t n cell x ∷ []) r W l =
-    subst (λ (v : List ℕ). Goes heap n t here (record { term = answered w2 p.term; vars = vars_after w2 p.vars; batch = begun p.term p.batch }) (after_cell S cell) (j ++ Did t n cell v ∷ []) r W l) (sym path) one in
+    let one : RunsWithoutEntry heap n t here (record { term = answered w2 p.term; vars = vars_after w2 p.vars; batch = begun p.term p.batch }) (after_cell S cell) (j ++ Did t n cell x2 ∷ []) r W l =
+    subst (λ (v : Cell). RunsWithoutEntry heap n t here (record { term = answered w2 p.term; vars = vars_after w2 p.vars; batch = begun p.term p.batch }) (after_cell S v) (j ++ Did t n v x2 ∷ []) r W l) (sym both.0) h in
+    let two : RunsWithoutEntry heap n t here (record { term = answered w2 p.term; vars = vars_after w2 p.vars; batch = begun p.term p.batch }) (after_cell S cell) (j ++ Did t n cell x ∷ []) r W l =
+    subst (λ (v : List ℕ). RunsWithoutEntry heap n t here (record { term = answered w2 p.term; vars = vars_after w2 p.vars; batch = begun p.term p.batch }) (after_cell S cell) (j ++ Did t n cell v ∷ []) r W l) (sym path) one in
     goes-part g
-    (subst (λ (v : Answer). Goes heap n t here (record { term = answered v p.term; vars = vars_after v p.vars; batch = begun p.term p.batch }) (after_cell S cell) (j ++ Did t n cell x ∷ []) r W l) (sym both.1) two) b
+    (subst (λ (v : Answer). RunsWithoutEntry heap n t here (record { term = answered v p.term; vars = vars_after v p.vars; batch = begun p.term p.batch }) (after_cell S cell) (j ++ Did t n cell x ∷ []) r W l) (sym both.1) two) b
 
 -- Journals.
 
@@ -106,9 +114,9 @@ not_away T x y here p same stands is_at may =
     let is : may.task ≡ y = (let e : Some may.task ≡ Some y = sym may.stands ∙ stands_y in cc) in
     let e : Travel may.asks.0 p ≡ At here = sym may.asks.1 ∙ (ap (λ (v : Task). v.place) (is ∙ sym same) ∙ is_at) in cc
 
-module _ (U : Given) (k : ℕ) (G : Game) (items : List Kept) (h : HasTold U k G items) where
+module _ (U : Given) (k : ℕ) (G : Game) (items : List StoreView) (h : HasTold U k G items) where
   -- the part that was told begins the walk of the turn
-  begins-walk : (y : Task) (there : PlaceId) (p2 r : Player) (S2 W : State) (l : List PlaceEvent) → slice_get (enabled (tree_in U G)) (k % length (enabled (tree_in U G))) ≡ Some y → y.place ≡ At there → slice_get G.players y.number.0 ≡ Some p2 → slice_get G.stores there.0 ≡ Some S2 → Goes U.heap (length G.entries) y.number there p2 S2 (journal_at G.journals there.0) r W l → IsLast (does r.vars there.0 r.term) → BeginEach (slice_set G.journals h.here.0 h.events) (slice_set G.journals there.0 l)
+  begins-walk : (y : Task) (there : PlaceId) (p2 r : Player) (S2 W : State) (l : List PlaceEvent) → slice_get (enabled (tree_in U G)) (k % length (enabled (tree_in U G))) ≡ Some y → y.place ≡ At there → slice_get G.players y.number.0 ≡ Some p2 → slice_get G.stores there.0 ≡ Some S2 → RunsWithoutEntry U.heap (length G.entries) y.number there p2 S2 (journal_at G.journals there.0) r W l → IsLast (does r.vars there.0 r.term) → BeginEach (slice_set G.journals h.here.0 h.events) (slice_set G.journals there.0 l)
   begins-walk y there p2 r S2 W l pick2 at2 player2 store2 goes2 last2 =
       let n : ℕ = length G.entries in
       let x : Task = h.task in
@@ -119,10 +127,10 @@ module _ (U : Given) (k : ℕ) (G : Game) (items : List Kept) (h : HasTold U k G
       let place : here ≡ there = (let e : At here ≡ At there = sym h.is_at ∙ ap (λ (v : Task). v.place) task ∙ at2 in cc) in
       let same_p : p ≡ p2 = (let e : Some p ≡ Some p2 = sym h.player ∙ ap (λ (v : Task). slice_get G.players v.number.0) task ∙ player2 in cc) in
       let same_s : S ≡ S2 = (let e : Some S ≡ Some S2 = sym h.found ∙ ap (λ (v : PlaceId). slice_get G.stores v.0) place ∙ store2 in cc) in
-      let a : Goes U.heap n x.number there p2 S2 (journal_at G.journals there.0) r W l = subst (λ (v : Task). Goes U.heap n v.number there p2 S2 (journal_at G.journals there.0) r W l) (sym task) goes2 in
-      let b : Goes U.heap n x.number here p2 S2 (journal_at G.journals here.0) r W l = subst (λ (v : PlaceId). Goes U.heap n x.number v p2 S2 (journal_at G.journals v.0) r W l) (sym place) a in
-      let c : Goes U.heap n x.number here p S2 (journal_at G.journals here.0) r W l = subst (λ (v : Player). Goes U.heap n x.number here v S2 (journal_at G.journals here.0) r W l) (sym same_p) b in
-      let d : Goes U.heap n x.number here p S (journal_at G.journals here.0) r W l = subst (λ (v : State). Goes U.heap n x.number here p v (journal_at G.journals here.0) r W l) (sym same_s) c in
+      let a : RunsWithoutEntry U.heap n x.number there p2 S2 (journal_at G.journals there.0) r W l = subst (λ (v : Task). RunsWithoutEntry U.heap n v.number there p2 S2 (journal_at G.journals there.0) r W l) (sym task) goes2 in
+      let b : RunsWithoutEntry U.heap n x.number here p2 S2 (journal_at G.journals here.0) r W l = subst (λ (v : PlaceId). RunsWithoutEntry U.heap n x.number v p2 S2 (journal_at G.journals v.0) r W l) (sym place) a in
+      let c : RunsWithoutEntry U.heap n x.number here p S2 (journal_at G.journals here.0) r W l = subst (λ (v : Player). RunsWithoutEntry U.heap n x.number here v S2 (journal_at G.journals here.0) r W l) (sym same_p) b in
+      let d : RunsWithoutEntry U.heap n x.number here p S (journal_at G.journals here.0) r W l = subst (λ (v : State). RunsWithoutEntry U.heap n x.number here p v (journal_at G.journals here.0) r W l) (sym same_s) c in
       let part : IsPrefix h.events l = goes-part h.goes d (subst (λ (v : PlaceId). IsLast (does r.vars v.0 r.term)) (sym place) last2) in
       subst (λ (v : PlaceId). BeginEach (slice_set G.journals here.0 h.events) (slice_set G.journals v.0 l)) place (begin-both G.journals here.0 h.events l part)
 
@@ -140,7 +148,7 @@ module _ (U : Given) (k : ℕ) (G : Game) (items : List Kept) (h : HasTold U k G
 -- What a refused turn leaves.
 
 -- nothing was told
-pub begun-same : (code : Block) (U : Given) (k : ℕ) (G : Game) (es : List Entry) (js : List (List PlaceEvent)) → GoesOn → Proper U → Comes code U G → NoRoot G.entries → es ≡ G.entries → js ≡ G.journals → HasBegun U k G es js
+pub begun-same : (code : Block) (U : Given) (k : ℕ) (G : Game) (es : List Entry) (js : List (List PlaceEvent)) → GamesGoOn → Proper U → MadeByTurns code U G → NoRoot G.entries → es ≡ G.entries → js ≡ G.journals → HasBegun U k G es js
 begun-same code U k G es js law proper comes unreleased entries journals =
     let on = law code U G proper comes unreleased k in
     let tells = turn-tells U k on.0 G on.1 on.2 in
@@ -156,7 +164,7 @@ begun-same code U k G es js law proper comes unreleased entries journals =
     subst (λ (v : List Entry). HasBegun U k G v js) (sym entries) (subst (λ (v : List (List PlaceEvent)). HasBegun U k G G.entries v) (sym journals) so)
 
 -- a part of the walk was told
-pub begun-told : (code : Block) (U : Given) (k : ℕ) (G : Game) (es : List Entry) (items : List Kept) → GoesOn → Proper U → Comes code U G → NoRoot G.entries → es ≡ G.entries → HasTold U k G items → HasBegun U k G es (map (λ s. s.events) items)
+pub begun-told : (code : Block) (U : Given) (k : ℕ) (G : Game) (es : List Entry) (items : List StoreView) → GamesGoOn → Proper U → MadeByTurns code U G → NoRoot G.entries → es ≡ G.entries → HasTold U k G items → HasBegun U k G es (map (λ s. s.events) items)
 begun-told code U k G es items law proper comes unreleased entries h =
     let on = law code U G proper comes unreleased k in
     let tells = turn-tells U k on.0 G on.1 on.2 in
@@ -169,14 +177,14 @@ begun-told code U k G es items law proper comes unreleased entries h =
       journals_before = begin-set G.journals h.here.0 h.events (goes-more h.goes);
       journals_after = begins-turn U k G items h on.0 on.1 on.2;
     } in
-    subst (λ (v : List Entry). HasBegun U k G v (map (λ (s : Kept). s.events) items)) (sym entries)
+    subst (λ (v : List Entry). HasBegun U k G v (map (λ (s : StoreView). s.events) items)) (sym entries)
     (subst (λ (v : List (List PlaceEvent)). HasBegun U k G G.entries v) (sym (journals_are U.heap 0 items (slice_set G.journals h.here.0 h.events) h.stores)) so)
 
 -- the entry of the turn was told
 pub begun-made : {L : Type 0} (U : Given) (k : ℕ) (G : Game) (m : Machine L) → HasMade U k G m → HasBegun U k G m.chronicle.entries (map (λ s. s.events) m.stores.items)
 begun-made U k G m made =
     let tells = turn-tells U k true G made.after made.turn in
-    let js : map (λ (s : Kept). s.events) m.stores.items ≡ made.after.journals = journals_are U.heap 0 m.stores.items made.after.journals made.stores in
+    let js : map (λ (s : StoreView). s.events) m.stores.items ≡ made.after.journals = journals_are U.heap 0 m.stores.items made.after.journals made.stores in
     record {
       used = true;
       after = made.after;
@@ -189,7 +197,7 @@ begun-made U k G m made =
 
 module _ {L : Type 0} {shape : Shape} {code : Block} {U : Given} {m : Machine L} {k i : ℕ} {here : PlaceId} {q : Player} {mover : Mover} {G : Game} (a : Acting shape code U m k i here q mover G) where
   -- what the task that the pick k moves has told
-  walk-told : (r : Player) (items : List Kept) (Z : State) (l : List PlaceEvent) → Goes U.heap (length G.entries) mover.who.task here a.began a.store (journal_at G.journals here.0) r Z l → StoresAre U.heap 0 items (slice_set G.journals here.0 l) → HasTold U k G items
+  walk-told : (r : Player) (items : List StoreView) (Z : State) (l : List PlaceEvent) → RunsWithoutEntry U.heap (length G.entries) mover.who.task here a.began a.store (journal_at G.journals here.0) r Z l → StoresAre U.heap 0 items (slice_set G.journals here.0 l) → HasTold U k G items
   walk-told r items Z l goes stored =
       record {
         task = row_of (seat_of mover);
@@ -210,12 +218,12 @@ module _ {L : Type 0} {shape : Shape} {code : Block} {U : Given} {m : Machine L}
       }
 
   -- in the middle of a turn
-  pub acting-told : (items : List Kept) → items ≡ m.stores.items → HasTold U k G items
+  pub acting-told : (items : List StoreView) → items ≡ m.stores.items → HasTold U k G items
   acting-told items same =
-      walk-told q items a.left a.events a.gone.goes (subst (λ (v : List Kept). StoresAre U.heap 0 v (slice_set G.journals here.0 a.events)) (sym same) a.stores)
+      walk-told q items a.left a.events a.gone.goes (subst (λ (v : List StoreView). StoresAre U.heap 0 v (slice_set G.journals here.0 a.events)) (sym same) a.stores)
 
   -- where a store has answered
-  pub called-told : (op : CellOp) (answer : Result (Option Value) Fault) (x : List ℕ) (old new : Kept) (mark : Mark) (items : List Kept) → IsCall q.term here op (does q.vars here.0 q.term) → begins q.term ≡ Some x → next_of (does q.vars here.0 q.term) ≡ CellStep op → StoreIs U m here G a.left a.events old → items ≡ slice_set m.stores.items here.0 new → mark.task ≡ mover.who.task → mark.stamp ≡ length G.entries → mark.path ≡ x → Asked old new mark op answer → HasTold U k G items
+  pub called-told : (op : CellOp) (answer : Result (Option Value) Fault) (x : List ℕ) (old new : StoreView) (mark : Mark) (items : List StoreView) → IsCall q.term here op (does q.vars here.0 q.term) → begins q.term ≡ Some x → next_of (does q.vars here.0 q.term) ≡ CellStep op → StoreIs U m here G a.left a.events old → items ≡ slice_set m.stores.items here.0 new → mark.task ≡ mover.who.task → mark.stamp ≡ length G.entries → mark.path ≡ x → CallMade old new mark op answer → HasTold U k G items
   called-told op answer x old new mark items c b e is put task stamp path asked =
       let w = call-told a op answer x old new mark items c b e is put task stamp path asked in walk-told _ items w.0 w.1 w.2 w.3
 
@@ -241,17 +249,17 @@ nothing-told {L = L} {U = U} {k = k} {G = G} l m' same = subst (λ (x : Machine 
 -- A turn that was refused.
 
 -- it has told nothing
-pub refused-same : {L : Type 0} (shape : Shape) (code : Block) (U : Given) (m m' : Machine L) (k : ℕ) (G : Game) → GoesOn → Seated shape code U m G → NoRoot G.entries → m'.chronicle.entries ≡ m.chronicle.entries → m'.stores ≡ m.stores → HasBegun U k G m'.chronicle.entries (map (λ s. s.events) m'.stores.items)
+pub refused-same : {L : Type 0} (shape : Shape) (code : Block) (U : Given) (m m' : Machine L) (k : ℕ) (G : Game) → GamesGoOn → Seated shape code U m G → NoRoot G.entries → m'.chronicle.entries ≡ m.chronicle.entries → m'.stores ≡ m.stores → HasBegun U k G m'.chronicle.entries (map (λ s. s.events) m'.stores.items)
 refused-same shape code U m m' k G law h unreleased history stored =
-    begun-same code U k G m'.chronicle.entries (map (λ (s : Kept). s.events) m'.stores.items) law h.shares.on.proper h.shares.comes unreleased (history ∙ h.shares.entries)
-    (ap (λ v. map (λ (s : Kept). s.events) v.items) stored ∙ journals_are U.heap 0 m.stores.items G.journals h.stores)
+    begun-same code U k G m'.chronicle.entries (map (λ (s : StoreView). s.events) m'.stores.items) law h.shares.on.proper h.shares.comes unreleased (history ∙ h.shares.entries)
+    (ap (λ v. map (λ (s : StoreView). s.events) v.items) stored ∙ journals_are U.heap 0 m.stores.items G.journals h.stores)
 
 -- it has told a part, or its entry
-pub refused-stopped : {L : Type 0} (shape : Shape) (code : Block) (U : Given) (m m' : Machine L) (k : ℕ) (G : Game) → GoesOn → Seated shape code U m G → NoRoot G.entries → HasStopped U k G m' → HasBegun U k G m'.chronicle.entries (map (λ s. s.events) m'.stores.items)
+pub refused-stopped : {L : Type 0} (shape : Shape) (code : Block) (U : Given) (m m' : Machine L) (k : ℕ) (G : Game) → GamesGoOn → Seated shape code U m G → NoRoot G.entries → HasStopped U k G m' → HasBegun U k G m'.chronicle.entries (map (λ s. s.events) m'.stores.items)
 refused-stopped shape code U m m' k G law h unreleased stop =
     elim stop [
       | inl half ↦ elim half.1 [
-        | inl stored ↦ begun-same code U k G m'.chronicle.entries (map (λ (s : Kept). s.events) m'.stores.items) law h.shares.on.proper h.shares.comes unreleased half.0 (journals_are U.heap 0 m'.stores.items G.journals stored)
+        | inl stored ↦ begun-same code U k G m'.chronicle.entries (map (λ (s : StoreView). s.events) m'.stores.items) law h.shares.on.proper h.shares.comes unreleased half.0 (journals_are U.heap 0 m'.stores.items G.journals stored)
         | inr told ↦ begun-told code U k G m'.chronicle.entries m'.stores.items law h.shares.on.proper h.shares.comes unreleased half.0 told
       ]
       | inr made ↦ begun-made U k G m' made

@@ -10,12 +10,12 @@ use Rattle.rx_chronicle.specs.Requests.{with_entry}
 use Rattle.rx_syntax.specs.Shape.{Shape}
 use Rattle.rx_machine.specs.declared.machine.Machine.{Machine}
 use Rattle.rx_machine.specs.Slots.{seat_at, SlotIs}
-use Rattle.rx_machine.specs.Picking.{IsReady}
+use Rattle.rx_machine.specs.Picking.{AreEnabled}
 use Rattle.rx_machine.specs.Runs.{Falling, WentOn}
 use Rattle.rx_machine.proofs.Own.{slot-on}
 
 -- a machine to whose chronicle the join was appended, and which else is as it was
-pub joined : {L : Type 0} {shape : Shape} {code : Block} {U : Given} {m : Machine L} {G : Game} (p : PlaceId) (t : Falling shape code U m (Join p) G) (c : Log) (k : ℕ) → c ≡ with_entry m.chronicle (Join p) → IsReady (tree_in U G) m.ready.members → WentOn shape code U (record m { chronicle = c }) k false G
+pub joined : {L : Type 0} {shape : Shape} {code : Block} {U : Given} {m : Machine L} {G : Game} (p : PlaceId) (t : Falling shape code U m (Join p) G) (c : Log) (k : ℕ) → c ≡ with_entry m.chronicle (Join p) → AreEnabled (tree_in U G) m.ready.members → WentOn shape code U (record m { chronicle = c }) k false G
 joined {shape = shape} {code = code} {U = U} {m = m} {G = G} p t c k told ready =
     let h = t.can.holds in
     let G' : Game = record G { entries = G.entries ++ Join p ∷ []; plan = rest_of G.plan } in
@@ -39,6 +39,6 @@ joined {shape = shape} {code = code} {U = U} {m = m} {G = G} p t c k told ready 
               (slot-on shape G.entries (Join p) (tree_in U G) (widened (tree_in U G)) G.players G.players n (seat_at m.seats.items n) refl (λ x live. (refl, refl)) refl (h.seats n));
         };
         unreleased = no_root-push G.entries (Join p) t.can.unreleased tt;
-        ready = subst (λ (T : Tree). IsReady T m.ready.members) same ready;
+        ready = subst (λ (T : Tree). AreEnabled T m.ready.members) same ready;
       },
     )

@@ -1,6 +1,6 @@
 -- What a task knows of places that acts.
 use Rattle.std.proofs.Common.{◌≡◌, ℕ, ◌≤◌, length, arith}
-use Rattle.rx_rules.proofs.Common.{PlaceId, Block, journal_at, Given, in_all, Proper, NoRoot, Game, Player, Comes, tree_in}
+use Rattle.rx_rules.proofs.Common.{PlaceId, Block, journal_at, Given, in_all, Proper, NoRoot, Game, Player, MadeByTurns, tree_in}
 use Rattle.rx_rules.proofs.Append.{tree-places}
 use Rattle.rx_runs.specs.Coming.{GamesCome}
 use Rattle.rx_runs.specs.Knowing.{ComesKnowing, GoesKnowing}
@@ -20,7 +20,7 @@ known-there {code = code} {U = U} {i = i} {here = here} {q = q} {mover = mover} 
 pub some-places : (U : Given) (G : Game) → Proper U → 1 ≤ (tree_in U G).places
 some-places U G proper = let some : 1 ≤ U.places = proper.some in omega (arith, some, tree-places U.places G.entries)
 
-pub few-there : (code : Block) (U : Given) (G : Game) → GamesCome → Proper U → Comes code U G → NoRoot G.entries → (tree_in U G).places ≤ 16
+pub few-there : (code : Block) (U : Given) (G : Game) → GamesCome → Proper U → MadeByTurns code U G → NoRoot G.entries → (tree_in U G).places ≤ 16
 few-there code U G come proper comes unreleased =
     let within : (tree_in U G).places ≤ in_all U = (come code U G proper comes unreleased).ok.ties.within in
     let few : in_all U ≤ 16 = proper.few in

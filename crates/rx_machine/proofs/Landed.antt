@@ -18,7 +18,7 @@ use Rattle.rx_history.specs.Setups.{given}
 use Rattle.rx_chronicle.specs.Requests.{tree_told, IsRefused, NoWait, Granted, Freed, RootDone, IsRootRefused}
 use Rattle.rx_chronicle.proofs.Ended.{root_or_none}
 use Rattle.rx_chronicle.proofs.Granting.{unhindered}
-use Rattle.rx_store.specs.Kept.{Kept}
+use Rattle.rx_store.specs.Kept.{StoreView}
 use Rattle.rx_syntax.specs.Shape.{Shape}
 use Rattle.rx_machine.specs.declared.machine.Machine.{Machine}
 use Rattle.rx_machine.specs.declared.seat.Seat.{Seat}
@@ -86,7 +86,7 @@ module _ {L : Type 0} {shape : Shape} {code : Block} {U : Given} {m : Machine L}
             slots = ap (λ xs. length xs) back ∙ (length-set m.seats.items i (Some seat') ∙ (h.slots ∙ ap (λ (V : Tree). V.next_task) same));
             failed = e.failed ∙ h.failed;
           };
-          stores = subst (λ (ss : List Kept). StoresAre U.heap 0 ss G.journals) (ap (λ v. v.items) (sym e.stores)) a.stores;
+          stores = subst (λ (ss : List StoreView). StoresAre U.heap 0 ss G.journals) (ap (λ v. v.items) (sym e.stores)) a.stores;
           seats = λ n.
               subst (λ (V : Tree). SlotIs shape G'.entries V G.players n (seat_at m'.seats.items n)) same
               (subst (λ (xs : List (Option Seat)). SlotIs shape G'.entries T' G.players n (seat_at xs n)) (sym back)

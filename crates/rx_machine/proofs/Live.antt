@@ -5,7 +5,7 @@ use Rattle.std.proofs.lemmas.Bool.{eqb-true, eq-eqb, ne_eqb}
 use Rattle.rx_rules.proofs.Common.{TaskId, ScopeId, Tree, is_task, task_of, is_under, change_task, add_task, without, hit, is_hit}
 use Rattle.rx_rules.specs.declared.tasks.Task.{Task}
 use Rattle.rx_rules.specs.declared.tasks.Blow.{Blow}
-use Rattle.rx_sound.specs.Sound.{TasksFall}
+use Rattle.rx_tree_laws.specs.Sound.{TasksFall}
 use Rattle.rx_machine.specs.Slots.{live_task, live_in, if_unstruck}
 use Rattle.rx_machine.proofs.Finding.{find_other, find_same, find_none, find_left, find_mapped}
 

@@ -10,17 +10,17 @@ use Rattle.rx_rules.specs.declared.entries.Entry.TheVariants.{Step, Root, Death,
 use Rattle.rx_rules.specs.Picked.{ends}
 use Rattle.rx_rules.proofs.Append.{tree-push}
 use Rattle.rx_rank.specs.Numbers.{Numbers, Ascends, marked}
-use Rattle.rx_sound.specs.Sound.{Sound, ReachedSound}
-use Rattle.rx_sound.specs.Enabling.{able, OthersStay, nearest_opener, FreesOne, WayStays}
-use Rattle.rx_sound.specs.Histories.{FoldReached}
+use Rattle.rx_tree_laws.specs.Sound.{Sound, ReachedSound}
+use Rattle.rx_tree_laws.specs.Enabling.{able, OthersStay, nearest_opener, FreesOne, WayStays}
+use Rattle.rx_tree_laws.specs.Histories.{FoldReached}
 use Rattle.rx_runs.specs.Coming.{GamesCome}
 use Rattle.rx_syntax.specs.Shape.{Shape}
 use Rattle.rx_history.specs.Logs.{Log}
 use Rattle.rx_machine.specs.declared.machine.Machine.{Machine}
 use Rattle.rx_machine.specs.declared.seat.Seat.{Seat}
 use Rattle.rx_machine.specs.Slots.{row_of, seat_at, live_task, SlotIs}
-use Rattle.rx_machine.specs.Picking.{slot_able, is_listed, IsReady}
-use Rattle.rx_machine.specs.Holds.{Seated, Holds, CanTurn}
+use Rattle.rx_machine.specs.Picking.{slot_able, is_listed, AreEnabled}
+use Rattle.rx_machine.specs.Holds.{Seated, MachineInvariant, CanTurn}
 use Rattle.rx_machine.specs.Runs.{HasMoved, AfterTurn, WentOn, Taken}
 use Rattle.rx_machine.proofs.Finding.{same_or_not}
 use Rattle.rx_machine.proofs.Live.{live_stands, live_number}
@@ -123,10 +123,10 @@ module _ {L : Type 0} (shape : Shape) (code : Block) (U : Given) (m : Machine L)
   is-not n high = able_high (tree_in U H) n (sound (tree_in U H) h.can.reached) (let z = h.can.holds.shares.slots in omega (arith, high, z))
 
   -- the task has moved and started no other
-  pub noted-one : OthersStay → (seat : Seat) → seat_at m.seats.items i ≡ Some seat → length m.seats.items ≤ before → (ns : List ℕ) → ns ≡ marked (slot_able (tree_in U H) (seat_at m.seats.items i)) i m.ready.members → IsReady (tree_in U H) ns
+  pub noted-one : OthersStay → (seat : Seat) → seat_at m.seats.items i ≡ Some seat → length m.seats.items ≤ before → (ns : List ℕ) → ns ≡ marked (slot_able (tree_in U H) (seat_at m.seats.items i)) i m.ready.members → AreEnabled (tree_in U H) ns
   noted-one stay seat at few ns e =
       let b : Bool = slot_able (tree_in U H) (seat_at m.seats.items i) in
-      subst (IsReady (tree_in U H)) (sym e) (
+      subst (AreEnabled (tree_in U H)) (sym e) (
         ascends_marked b i m.ready.members h.ready.0,
         λ n. elim (same_or_not n i) [
           | inl w ↦ subst (λ (v : ℕ). is_listed v (marked b i m.ready.members) ≡ able (tree_in U H) (record { 0 = v })) (sym w) (marked_same b i m.ready.members ∙ now-able i)
@@ -138,12 +138,12 @@ module _ {L : Type 0} (shape : Shape) (code : Block) (U : Given) (m : Machine L)
       )
 
   -- the task has moved and started another
-  pub noted-two : OthersStay → (seat : Seat) → seat_at m.seats.items i ≡ Some seat → (ns : List ℕ) → ns ≡ marked (slot_able (tree_in U H) (seat_at m.seats.items before)) before (marked (slot_able (tree_in U H) (seat_at m.seats.items i)) i m.ready.members) → IsReady (tree_in U H) ns
+  pub noted-two : OthersStay → (seat : Seat) → seat_at m.seats.items i ≡ Some seat → (ns : List ℕ) → ns ≡ marked (slot_able (tree_in U H) (seat_at m.seats.items before)) before (marked (slot_able (tree_in U H) (seat_at m.seats.items i)) i m.ready.members) → AreEnabled (tree_in U H) ns
   noted-two stay seat at ns e =
       let b : Bool = slot_able (tree_in U H) (seat_at m.seats.items i) in
       let c : Bool = slot_able (tree_in U H) (seat_at m.seats.items before) in
       let old : List ℕ = marked b i m.ready.members in
-      subst (IsReady (tree_in U H)) (sym e) (
+      subst (AreEnabled (tree_in U H)) (sym e) (
         ascends_marked c before old (ascends_marked b i m.ready.members h.ready.0),
         λ n. elim (same_or_not n before) [
           | inl w ↦ subst (λ (v : ℕ). is_listed v (marked c before old) ≡ able (tree_in U H) (record { 0 = v })) (sym w) (marked_same c before old ∙ now-able before)
@@ -198,10 +198,10 @@ module _ {L : Type 0} (shape : Shape) (code : Block) (U : Given) (m : Machine L)
       (λ k. other (ap (λ (T : Tree). nearest_opener T (Some under)) (end-tree e) ∙ (sym (ap (λ (v : ScopeId). nearest_opener (made_act (tree_in U G) mine.task.number (End e.0)) (Some v)) h.hung) ∙ k)))
 
   -- and none was left above it
-  pub noted-alone : FreesOne → seat_at m.seats.items i ≡ None → nearest_opener (tree_in U H) (Some under) ≡ None → (ns : List ℕ) → ns ≡ marked (slot_able (tree_in U H) (seat_at m.seats.items i)) i m.ready.members → IsReady (tree_in U H) ns
+  pub noted-alone : FreesOne → seat_at m.seats.items i ≡ None → nearest_opener (tree_in U H) (Some under) ≡ None → (ns : List ℕ) → ns ≡ marked (slot_able (tree_in U H) (seat_at m.seats.items i)) i m.ready.members → AreEnabled (tree_in U H) ns
   noted-alone law gone none ns e =
       let b : Bool = slot_able (tree_in U H) (seat_at m.seats.items i) in
-      subst (IsReady (tree_in U H)) (sym e) (
+      subst (AreEnabled (tree_in U H)) (sym e) (
         ascends_marked b i m.ready.members h.ready.0,
         λ n. elim (same_or_not n i) [
           | inl w ↦ subst (λ (v : ℕ). is_listed v (marked b i m.ready.members) ≡ able (tree_in U H) (record { 0 = v })) (sym w) (marked_same b i m.ready.members ∙ now-able i)
@@ -210,12 +210,12 @@ module _ {L : Type 0} (shape : Shape) (code : Block) (U : Given) (m : Machine L)
       )
 
   -- or the nearest opener was asked
-  pub noted-end : FreesOne → seat_at m.seats.items i ≡ None → (o : TaskId) → nearest_opener (tree_in U H) (Some under) ≡ Some o → (ns : List ℕ) → ns ≡ marked (slot_able (tree_in U H) (seat_at m.seats.items o.0)) o.0 (marked (slot_able (tree_in U H) (seat_at m.seats.items i)) i m.ready.members) → IsReady (tree_in U H) ns
+  pub noted-end : FreesOne → seat_at m.seats.items i ≡ None → (o : TaskId) → nearest_opener (tree_in U H) (Some under) ≡ Some o → (ns : List ℕ) → ns ≡ marked (slot_able (tree_in U H) (seat_at m.seats.items o.0)) o.0 (marked (slot_able (tree_in U H) (seat_at m.seats.items i)) i m.ready.members) → AreEnabled (tree_in U H) ns
   noted-end law gone o near ns e =
       let b : Bool = slot_able (tree_in U H) (seat_at m.seats.items i) in
       let c : Bool = slot_able (tree_in U H) (seat_at m.seats.items o.0) in
       let old : List ℕ = marked b i m.ready.members in
-      subst (IsReady (tree_in U H)) (sym e) (
+      subst (AreEnabled (tree_in U H)) (sym e) (
         ascends_marked c o.0 old (ascends_marked b i m.ready.members h.ready.0),
         λ n. elim (same_or_not n o.0) [
           | inl w ↦ subst (λ (v : ℕ). is_listed v (marked c o.0 old) ≡ able (tree_in U H) (record { 0 = v })) (sym w) (marked_same c o.0 old ∙ now-able o.0)
@@ -230,7 +230,7 @@ module _ {L : Type 0} (shape : Shape) (code : Block) (U : Given) (m : Machine L)
       )
 
 -- every task was asked
-pub noted-all : (shape : Shape) (es : List Entry) (T T' : Tree) (ps : List Player) (os : List (Option Seat)) (old ns : List ℕ) → Sound T → Sound T' → Grows T T' → length os ≡ T'.next_task → ((n : ℕ) → SlotIs shape es T' ps n (seat_at os n)) → IsReady T old → (Ascends 0 old → Ascends 0 ns) → ((n : ℕ) → n < length os → is_listed n ns ≡ slot_able T' (seat_at os n)) → ((n : ℕ) → length os ≤ n → is_listed n ns ≡ is_listed n old) → IsReady T' ns
+pub noted-all : (shape : Shape) (es : List Entry) (T T' : Tree) (ps : List Player) (os : List (Option Seat)) (old ns : List ℕ) → Sound T → Sound T' → Grows T T' → length os ≡ T'.next_task → ((n : ℕ) → SlotIs shape es T' ps n (seat_at os n)) → AreEnabled T old → (Ascends 0 old → Ascends 0 ns) → ((n : ℕ) → n < length os → is_listed n ns ≡ slot_able T' (seat_at os n)) → ((n : ℕ) → length os ≤ n → is_listed n ns ≡ is_listed n old) → AreEnabled T' ns
 noted-all shape es T T' ps os old ns before after more size slots ready ascends noted others = (
   ascends ready.0,
   λ n. elim (cases_lt n (length os)) [
@@ -240,7 +240,7 @@ noted-all shape es T T' ps os old ns before after more size slots ready ascends 
 )
 
 -- what is noted after a turn of the task of slot i
-pub has-moved : {L : Type 0} (shape : Shape) (code : Block) (U : Given) (m m' : Machine L) (k i : ℕ) (under : ScopeId) (before : ℕ) (G : Game) → GamesCome → FoldReached → (t : Taken shape code U m k i G) → IsReady (tree_in U G) m.ready.members → (a : AfterTurn shape code U m' k G) → m'.ready ≡ m.ready → ((seat : Seat) → seat_at m.seats.items i ≡ Some seat → under ≡ seat.who.scope) → before ≡ length m.seats.items → HasMoved shape code U m' k i under before G a.0
+pub has-moved : {L : Type 0} (shape : Shape) (code : Block) (U : Given) (m m' : Machine L) (k i : ℕ) (under : ScopeId) (before : ℕ) (G : Game) → GamesCome → FoldReached → (t : Taken shape code U m k i G) → AreEnabled (tree_in U G) m.ready.members → (a : AfterTurn shape code U m' k G) → m'.ready ≡ m.ready → ((seat : Seat) → seat_at m.seats.items i ≡ Some seat → under ≡ seat.who.scope) → before ≡ length m.seats.items → HasMoved shape code U m' k i under before G a.0
 has-moved shape code U m m' k i under before G come fold t ready a same hung size =
     let slot = subst (λ (o : Option Seat). SlotIs shape G.entries (tree_in U G) G.players i o) t.at (t.can.holds.seats i) in
     record {
@@ -253,7 +253,7 @@ has-moved shape code U m m' k i under before G come fold t ready a same hung siz
       found = subst (λ (v : ℕ). task_of (tree_in U G) (record { 0 = v }) ≡ Some (row_of t.seat)) (sym (live_number (tree_in U G) i (row_of t.seat) slot.3.row)) (live_stands (tree_in U G) i (row_of t.seat) slot.3.row).0;
       hung = sym (hung t.seat t.at);
       slots = size ∙ t.can.holds.shares.slots;
-      ready = subst (λ (r : Numbers). IsReady (tree_in U G) r.members) (sym same) ready;
+      ready = subst (λ (r : Numbers). AreEnabled (tree_in U G) r.members) (sym same) ready;
     }
 
 -- there is room for the numbers of all slots
@@ -275,7 +275,7 @@ inside-still shape code U m m' k i G t a =
     omega (arith, least, old, new, inside)
 
 -- the turn was noted
-pub went-on : {L : Type 0} (shape : Shape) (code : Block) (U : Given) (m m' : Machine L) (k i : ℕ) (under : ScopeId) (before : ℕ) (G H : Game) → HasMoved shape code U m k i under before G H → m' ≡ record m { ready = m'.ready } → IsReady (tree_in U H) m'.ready.members → WentOn shape code U m' k true G
+pub went-on : {L : Type 0} (shape : Shape) (code : Block) (U : Given) (m m' : Machine L) (k i : ℕ) (under : ScopeId) (before : ℕ) (G H : Game) → HasMoved shape code U m k i under before G H → m' ≡ record m { ready = m'.ready } → AreEnabled (tree_in U H) m'.ready.members → WentOn shape code U m' k true G
 went-on {L = L} shape code U m m' k i under before G H h same ready = (
   H,
   h.turn,
@@ -287,7 +287,7 @@ went-on {L = L} shape code U m m' k i under before G H h same ready = (
 )
 
 -- the death was noted
-pub died-on : {L : Type 0} (shape : Shape) (code : Block) (U : Given) (m m' : Machine L) (k : ℕ) (G : Game) (old : List ℕ) → ReachedSound → Reached (tree_in U G) → (a : HasFallen shape code U m k G) → CanTurn shape code U m a.0 → IsReady (tree_in U G) old → m' ≡ record m { ready = m'.ready } → (Ascends 0 old → Ascends 0 m'.ready.members) → ((n : ℕ) → n < length m.seats.items → is_listed n m'.ready.members ≡ slot_able (tree_in U a.0) (seat_at m.seats.items n)) → ((n : ℕ) → length m.seats.items ≤ n → is_listed n m'.ready.members ≡ is_listed n old) → WentOn shape code U m' k false G
+pub died-on : {L : Type 0} (shape : Shape) (code : Block) (U : Given) (m m' : Machine L) (k : ℕ) (G : Game) (old : List ℕ) → ReachedSound → Reached (tree_in U G) → (a : HasFallen shape code U m k G) → CanTurn shape code U m a.0 → AreEnabled (tree_in U G) old → m' ≡ record m { ready = m'.ready } → (Ascends 0 old → Ascends 0 m'.ready.members) → ((n : ℕ) → n < length m.seats.items → is_listed n m'.ready.members ≡ slot_able (tree_in U a.0) (seat_at m.seats.items n)) → ((n : ℕ) → length m.seats.items ≤ n → is_listed n m'.ready.members ≡ is_listed n old) → WentOn shape code U m' k false G
 died-on {L = L} shape code U m m' k G old sound reached a can ready same ascends noted others = (
   a.0,
   a.1,
@@ -301,6 +301,6 @@ died-on {L = L} shape code U m m' k G old sound reached a can ready same ascends
 )
 
 -- a turn can be made where there is more room
-pub roomy-can : {L : Type 0} (shape : Shape) (code : Block) (U : Given) (m : Machine L) (c : Log) (r : Numbers) (G : Game) → GamesCome → FoldReached → (c.entries ≡ m.chronicle.entries) × (c.setup ≡ m.chronicle.setup) → Holds shape code U m G → CanTurn shape code U (record m { chronicle = c; ready = r }) G
+pub roomy-can : {L : Type 0} (shape : Shape) (code : Block) (U : Given) (m : Machine L) (c : Log) (r : Numbers) (G : Game) → GamesCome → FoldReached → (c.entries ≡ m.chronicle.entries) × (c.setup ≡ m.chronicle.setup) → MachineInvariant shape code U m G → CanTurn shape code U (record m { chronicle = c; ready = r }) G
 roomy-can shape code U m c r G come fold told h =
     can-turn shape code U (record m { chronicle = c; ready = r }) G come fold (seated-on m (record m { chronicle = c; ready = r }) told.0 told.1 refl refl refl h.seated) h.unreleased

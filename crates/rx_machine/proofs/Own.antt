@@ -10,7 +10,7 @@ use Rattle.rx_rules.specs.declared.tasks.Kind.{Kind}
 use Rattle.rx_syntax.specs.Shape.{Shape}
 use Rattle.rx_machine.specs.declared.seat.Seat.{Seat}
 use Rattle.rx_machine.specs.Slots.{row_of, live_task, own_kinds, SlotIs, IsWork}
-use Rattle.rx_sound.specs.Spine.{Spine}
+use Rattle.rx_tree_laws.specs.Spine.{Spine}
 use Rattle.rx_machine.proofs.Live.{live_number, without_task}
 use Rattle.rx_rules.specs.declared.entries.Entry.{Entry}
 use Rattle.rx_machine.specs.declared.seat.Work.{Work}

@@ -11,18 +11,18 @@ use Rattle.rx_control.specs.Stands.{StandsFor}
 use Rattle.rx_machine.specs.declared.machine.Machine.{Machine}
 use Rattle.rx_machine.specs.declared.seat.Mover.{Mover}
 use Rattle.rx_machine.specs.Slots.{row_of, own_kinds, seat_of}
-use Rattle.rx_sound.specs.Held.{is_held}
+use Rattle.rx_tree_laws.specs.Held.{is_held}
 use Rattle.rx_machine.specs.Holds.{Seated, Acting, LeadsTo}
 use Rattle.rx_machine.proofs.Acted.{told-nothing, went, of-game, acted}
 use Rattle.rx_machine.proofs.Asking.{asks-free}
-use Rattle.rx_sound.proofs.Beginning.{begins-so}
-use Rattle.rx_sound.specs.TermSteps.{Begins}
-use Rattle.rx_sound.proofs.Granting.{AfterGrant, after-grant}
-use Rattle.rx_sound.proofs.SpineGrants.{GrantsSpine, spine-grant}
+use Rattle.rx_tree_laws.proofs.Beginning.{begins-so}
+use Rattle.rx_tree_laws.specs.TermSteps.{BeginsStatement}
+use Rattle.rx_tree_laws.proofs.Granting.{AfterGrant, after-grant}
+use Rattle.rx_tree_laws.proofs.SpineGrants.{GrantsSpine, spine-grant}
 
 -- the statement that prints
 pub print-begins : (q : Player) (here : ℕ) (z : ℤ) → does q.vars here q.term ≡ Prints z → (x : List ℕ) × (begins q.term ≡ Some x)
-print-begins q here z asks = subst (λ (d : Does). Begins d (begins q.term)) asks (begins-so q.vars here q.term)
+print-begins q here z asks = subst (λ (d : Does). BeginsStatement d (begins q.term)) asks (begins-so q.vars here q.term)
 
 module _ {L : Type 0} {shape : Shape} {code : Block} {U : Given} {m : Machine L} {k i : ℕ} {here : PlaceId} {q : Player} {mover : Mover} {G : Game} (a : Acting shape code U m k i here q mover G) (z : ℤ) (asks : does q.vars here.0 q.term ≡ Prints z) where
   pub printed : (m' : Machine L) (mover' : Mover) (x : List ℕ) → begins q.term ≡ Some x → m' ≡ record m { chronicle = m'.chronicle; seats = m'.seats; idle = m'.idle } → Granted m.chronicle mover.who (Print z x) mover.batch m'.chronicle → StandsFor shape mover'.control.value (granted [] q.term) → mover'.control.value.vars ≡ mover.control.value.vars → row_of (seat_of mover') ≡ row_of (seat_of mover) → mover'.who.inner ≡ mover.who.inner → m'.seats.items ≡ slice_set m.seats.items i (Some (seat_of mover')) → LeadsTo (Turn U k G true) (Seated shape code U m')

@@ -4,13 +4,13 @@ use Rattle.std.proofs.lemmas.Bool.{cases_lt, cond-true, cond-false, lt-ltb, le-l
 use Rattle.rx_rules.specs.declared.tasks.Task.{Task}
 use Rattle.rx_rules.proofs.Common.{Tree, task_of, quiet, inner, Player}
 use Rattle.rx_rank.specs.Numbers.{Ascends, inserted, removed, marked}
-use Rattle.rx_sound.specs.Sound.{Sound}
-use Rattle.rx_sound.specs.Enabling.{able, able_in}
-use Rattle.rx_sound.proofs.Reach.{task_below}
+use Rattle.rx_tree_laws.specs.Sound.{Sound}
+use Rattle.rx_tree_laws.specs.Enabling.{able, able_in}
+use Rattle.rx_tree_laws.proofs.Reach.{task_below}
 use Rattle.rx_syntax.specs.Shape.{Shape}
 use Rattle.rx_machine.specs.declared.seat.Seat.{Seat}
 use Rattle.rx_machine.specs.Slots.{row_of, seat_at, live_in, SlotIs}
-use Rattle.rx_machine.specs.Picking.{slot_able, is_listed, IsReady}
+use Rattle.rx_machine.specs.Picking.{slot_able, is_listed, AreEnabled}
 use Rattle.rx_machine.proofs.Live.{live_stands}
 use Rattle.rx_machine.proofs.EnabledTasks.{able_from}
 use Rattle.rx_rules.specs.declared.entries.Entry.{Entry}
@@ -195,7 +195,7 @@ able_high T n h high =
     ]) refl
 
 -- the set has the numbers of the slots that are enabled
-pub ready_slots : (shape : Shape) (es : List Entry) (T : Tree) (ps : List Player) (os : List (Option Seat)) (ns : List ℕ) → ((n : ℕ) → SlotIs shape es T ps n (seat_at os n)) → IsReady T ns → ns ≡ able_from T 0 os
+pub ready_slots : (shape : Shape) (es : List Entry) (T : Tree) (ps : List Player) (os : List (Option Seat)) (ns : List ℕ) → ((n : ℕ) → SlotIs shape es T ps n (seat_at os n)) → AreEnabled T ns → ns ≡ able_from T 0 os
 ready_slots shape es T ps os ns slots r =
     ascends_same 0 ns (able_from T 0 os) r.0 (able_ascends T 0 os) (λ n.
     let z : n ≡ 0 + n = omega arith in

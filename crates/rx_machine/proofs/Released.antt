@@ -8,8 +8,8 @@ use Rattle.rx_rules.specs.declared.entries.Entry.{Entry}
 use Rattle.rx_rules.specs.declared.tasks.Task.{Task}
 use Rattle.rx_rules.specs.declared.tasks.Kind.{Kind}
 use Rattle.rx_rules.specs.Plays.{Fits}
-use Rattle.rx_sound.specs.Sound.{ReachedSound, TasksFall}
-use Rattle.rx_sound.specs.Owning.{ReleaseKeeps, ReleasePops}
+use Rattle.rx_tree_laws.specs.Sound.{ReachedSound, TasksFall}
+use Rattle.rx_tree_laws.specs.Owning.{ReleaseKeeps, ReleasePops}
 use Rattle.rx_runs.specs.Coming.{CameTo, GamesCome}
 use Rattle.rx_finish.specs.declared.ledger.LedgerFault.{LedgerFault}
 use Rattle.rx_finish.specs.declared.ledger.LedgerFault.TheVariants.{NoMemory}
@@ -25,15 +25,15 @@ use Rattle.rx_machine.specs.declared.machine.Machine.{Machine}
 use Rattle.rx_machine.specs.declared.seat.Seat.{Seat}
 use Rattle.rx_machine.specs.declared.seat.Mover.{Mover}
 use Rattle.rx_machine.specs.Slots.{row_of, live_task, own_kinds, seat_of}
-use Rattle.rx_sound.specs.Spine.{Spine}
+use Rattle.rx_tree_laws.specs.Spine.{Spine}
 use Rattle.rx_machine.specs.Holds.{Seated, Acting, IsPick, LeadsTo}
 use Rattle.rx_machine.specs.Refusals.{HasMade}
 use Rattle.rx_machine.proofs.Live.{live_number, live_stands, change-other, change-same, release-live}
 use Rattle.rx_machine.proofs.Own.{release-own}
 use Rattle.rx_machine.proofs.Acted.{told-nothing, went, of-told, of-game, told-so, acted}
 use Rattle.rx_machine.proofs.Asking.{id_of, seat-id, seat_asks, seat_unstruck}
-use Rattle.rx_sound.proofs.Granting.{AfterGrant, after-grant, release_held}
-use Rattle.rx_sound.proofs.SpineGrants.{GrantsSpine, spine-grant}
+use Rattle.rx_tree_laws.proofs.Granting.{AfterGrant, after-grant, release_held}
+use Rattle.rx_tree_laws.proofs.SpineGrants.{GrantsSpine, spine-grant}
 use Rattle.rx_machine.proofs.Waited.{innermost}
 
 -- Each element passes the test.

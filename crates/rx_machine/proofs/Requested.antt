@@ -8,9 +8,9 @@ use Rattle.rx_history.specs.declared.step.Next.{Next}
 use Rattle.rx_history.specs.declared.step.Next.TheVariants.{Local as LocalStep, Cell, Book, Done as Ended}
 use Rattle.rx_history.specs.Next.{next_of}
 use Rattle.rx_plan.proofs.Requests.{asks_open, asks_call, asks_spawn, asks_wait, asks_release, asks_print, asks_census, asks_end}
-use Rattle.rx_machine.specs.Inside.Requests.{IsAsked, IsRequest}
+use Rattle.rx_machine.specs.Inside.Requests.{AsksOrEnds, IsRequest}
 
-pub asks_no_local : (d : Does) → IsAsked d → next_of d ≡ LocalStep → ⊥
+pub asks_no_local : (d : Does) → AsksOrEnds d → next_of d ≡ LocalStep → ⊥
 asks_no_local (Local left vars) a h = a
 asks_no_local (Makes name words) a h = cc
 asks_no_local (Gets name target index) a h = cc
@@ -25,7 +25,7 @@ asks_no_local (Prints value) a h = cc
 asks_no_local (Counts name) a h = cc
 asks_no_local (Done faults) a h = cc
 
-pub asks_no_cell : (d : Does) (op : CellOp) → IsAsked d → next_of d ≡ Cell op → ⊥
+pub asks_no_cell : (d : Does) (op : CellOp) → AsksOrEnds d → next_of d ≡ Cell op → ⊥
 asks_no_cell (Local left vars) op a h = cc
 asks_no_cell (Makes name words) op a h = a
 asks_no_cell (Gets name target index) op a h = a

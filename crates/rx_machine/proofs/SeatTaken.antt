@@ -7,8 +7,8 @@ use Rattle.rx_rules.specs.declared.tasks.Task.{Task}
 use Rattle.rx_rules.specs.declared.tasks.Where.{Where}
 use Rattle.rx_rules.specs.declared.tasks.Where.TheVariants.{At, Travel}
 use Rattle.rx_rules.specs.declared.events.PlaceEvent.{PlaceEvent}
-use Rattle.rx_sound.specs.Sound.{Sound, Inside}
-use Rattle.rx_sound.proofs.Reach.{fits_of}
+use Rattle.rx_tree_laws.specs.Sound.{Sound, Inside}
+use Rattle.rx_tree_laws.proofs.Reach.{fits_of}
 use Rattle.rx_runs.specs.Coming.{CameTo, GamesCome}
 use Rattle.rx_runs.proofs.Pairs.{pairs-get, journal_got, set_same}
 use Rattle.rx_history.specs.Setups.{given}

@@ -9,7 +9,7 @@ use Rattle.rx_rules.specs.declared.entries.Act.{Act}
 use Rattle.rx_rules.specs.declared.entries.Act.TheVariants.{Spawn, At as CallsAt}
 use Rattle.rx_rules.specs.declared.tasks.Where.{Where}
 use Rattle.rx_rules.specs.Plays.{Fits}
-use Rattle.rx_sound.specs.Sound.{Sound}
+use Rattle.rx_tree_laws.specs.Sound.{Sound}
 use Rattle.rx_runs.specs.Knowing.{ComesKnowing, GoesKnowing}
 use Rattle.rx_syntax.specs.Shape.{Shape}
 use Rattle.rx_control.specs.Stands.{StandsFor}
@@ -19,20 +19,20 @@ use Rattle.rx_machine.specs.declared.machine.Machine.{Machine}
 use Rattle.rx_machine.specs.declared.seat.Seat.{Seat}
 use Rattle.rx_machine.specs.declared.seat.Mover.{Mover}
 use Rattle.rx_machine.specs.Slots.{row_of, live_task, if_unstruck, own_kinds, IsWork, seat_of, entry_starts}
-use Rattle.rx_sound.specs.Spine.{Spine}
-use Rattle.rx_sound.specs.Held.{is_held}
+use Rattle.rx_tree_laws.specs.Spine.{Spine}
+use Rattle.rx_tree_laws.specs.Held.{is_held}
 use Rattle.rx_machine.specs.Holds.{Seated, Acting, LeadsTo}
 use Rattle.rx_machine.proofs.Acted.{told-nothing, went, of-told, of-game}
 use Rattle.rx_machine.proofs.Asking.{seat_asks, moving, asks-free}
 use Rattle.rx_machine.proofs.Knowing.{known-there}
-use Rattle.rx_sound.proofs.Beginning.{begins-so}
-use Rattle.rx_sound.specs.TermSteps.{Begins, Targets}
+use Rattle.rx_tree_laws.proofs.Beginning.{begins-so}
+use Rattle.rx_tree_laws.specs.TermSteps.{BeginsStatement, Targets}
 use Rattle.rx_machine.proofs.Born.{NewSeat, none-own, new-slot, started, child_player}
-use Rattle.rx_sound.proofs.Granting.{AfterGrant, after-grant}
+use Rattle.rx_tree_laws.proofs.Granting.{AfterGrant, after-grant}
 use Rattle.rx_machine.proofs.Live.{live_stands, add-other, add-same, change-other, change-same}
 use Rattle.rx_machine.proofs.Own.{own_scopes, opened-same, opened-other, inner-opened}
-use Rattle.rx_sound.proofs.SpineGrants.{GrantsSpine, spine-grant}
-use Rattle.rx_sound.proofs.Targets.{targets-exist}
+use Rattle.rx_tree_laws.proofs.SpineGrants.{GrantsSpine, spine-grant}
+use Rattle.rx_tree_laws.proofs.Targets.{targets-exist}
 use Rattle.rx_rules.specs.declared.entries.Entry.{Entry}
 use Rattle.rx_rules.specs.declared.entries.Entry.TheVariants.{Step}
 use Rattle.rx_machine.specs.declared.seat.Work.{Work}
@@ -44,10 +44,10 @@ use Rattle.rx_machine.specs.declared.seat.Work.TheVariants.{Seed as NotBegun}
 -- What starts a task begins a statement.
 
 pub spawn-begins : (q : Player) (here to : ℕ) → does q.vars here q.term ≡ Spawns to → (x : List ℕ) × (begins q.term ≡ Some x)
-spawn-begins q here to asks = subst (λ (d : Does). Begins d (begins q.term)) asks (begins-so q.vars here q.term)
+spawn-begins q here to asks = subst (λ (d : Does). BeginsStatement d (begins q.term)) asks (begins-so q.vars here q.term)
 
 pub call-begins : (q : Player) (here to : ℕ) → does q.vars here q.term ≡ Calls to → (x : List ℕ) × (begins q.term ≡ Some x)
-call-begins q here to asks = subst (λ (d : Does). Begins d (begins q.term)) asks (begins-so q.vars here q.term)
+call-begins q here to asks = subst (λ (d : Does). BeginsStatement d (begins q.term)) asks (begins-so q.vars here q.term)
 
 -- the slot of a new task, as it was made
 pub record IsBorn (T : Tree) (number : TaskId) (under : ScopeId) (from to : PlaceId) (work : Work) (slot : Option Seat) : Type 0 where

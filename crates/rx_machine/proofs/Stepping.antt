@@ -1,10 +1,11 @@
 -- One step more of a task that makes its turn.
 use Rattle.std.proofs.Common.{◌≡◌, ℕ, ◌+◌, ◌*◌, ◌≤◌, Bool, false, List, [], ◌∷◌, ◌++◌, reverse, length, Some, None, slice_set, refl, ap, ◌∙◌, sym, subst, arith}
-use Rattle.rx_rules.proofs.Common.{PlaceId, TaskId, Block, work, Term, Vars, Answer, answered, vars_after, Does, Local, Makes, Gets, Puts, Forgets, Opens, Calls, Spawns, Waits, Releases, Prints, Counts, Done, does, begins, Tree, inner, State, MayCell, after_cell, Tells, begun, journal_at, Given, Game, Player, Goes, stays, local, stores, tree_in}
+use Rattle.rx_rules.proofs.Common.{PlaceId, TaskId, Block, work, Term, Vars, Answer, answered, vars_after, Does, Local, Makes, Gets, Puts, Forgets, Opens, Calls, Spawns, Waits, Releases, Prints, Counts, Done, does, begins, Tree, inner, State, MayCell, after_cell, Tells, begun, journal_at, Given, Game, Player, RunsWithoutEntry, stays, local, stores, tree_in}
 use Rattle.rx_rules.specs.declared.tasks.Task.{Task}
 use Rattle.rx_rules.specs.declared.events.Cell.{Cell}
 use Rattle.rx_rules.specs.declared.events.PlaceEvent.{PlaceEvent}
 use Rattle.rx_rules.specs.declared.events.PlaceEvent.TheVariants.{Done as Did}
+use Rattle.rx_rules.specs.declared.entries.Entry.{Entry}
 use Rattle.rx_runs.specs.Steps.{steps, Sinks, TermSinks}
 use Rattle.rx_runs.specs.Left.{FewLeft, GoingSinks}
 use Rattle.rx_history.specs.Setups.{given}
@@ -13,33 +14,32 @@ use Rattle.rx_history.specs.declared.step.Next.TheVariants.{Local as LocalStep, 
 use Rattle.rx_history.specs.declared.step.Want.{Want}
 use Rattle.rx_history.specs.declared.step.Next.{Next}
 use Rattle.rx_history.specs.Next.{next_of}
-use Rattle.rx_control.specs.Stands.{StandsFor, Leaves}
+use Rattle.rx_control.specs.Stands.{StandsFor, AfterLocalStep}
 use Rattle.rx_control.specs.declared.control.Control.{Control}
 use Rattle.rx_plan.proofs.Told.{told_local}
 use Rattle.rx_machine.specs.declared.machine.Machine.{Machine}
 use Rattle.rx_finish.specs.declared.ledger.Caller.{Caller}
 use Rattle.rx_machine.specs.declared.seat.Seat.{Seat}
 use Rattle.rx_machine.specs.declared.seat.Mover.{Mover}
-use Rattle.rx_sound.specs.Held.{is_held, HeldInFront}
-use Rattle.rx_sound.specs.Spine.{Spine}
+use Rattle.rx_tree_laws.specs.Held.{is_held, HeldInFront}
+use Rattle.rx_tree_laws.specs.Spine.{Spine}
 use Rattle.rx_machine.specs.Slots.{IsSeat, own_kinds, seat_of}
 use Rattle.rx_store.specs.Kepts.{StoresAre}
 use Rattle.rx_machine.proofs.SeatTaken.{row-same}
 use Rattle.rx_machine.specs.Holds.{Shares, Acting}
-use Rattle.rx_machine.specs.Inside.Requests.{IsAsked, OnlyStores, AfterStep}
-use Rattle.rx_sound.proofs.Holding.{AfterLocal, after-local}
-use Rattle.rx_sound.proofs.Granting.{not_held}
-use Rattle.rx_sound.proofs.Spines.{LeavesSpine, spine-local}
-use Rattle.rx_rules.specs.declared.entries.Entry.{Entry}
+use Rattle.rx_machine.specs.Inside.Requests.{AsksOrEnds, OnlyStores, AfterStep}
+use Rattle.rx_tree_laws.proofs.Holding.{AfterLocal, after-local}
+use Rattle.rx_tree_laws.proofs.Granting.{not_held}
+use Rattle.rx_tree_laws.proofs.Spines.{LeavesSpine, spine-local}
 
 -- Steps at the end.
 
-pub goes-local : {heap n : ℕ} {t : TaskId} {here : PlaceId} {p q : Player} {S Z : State} {j k : List PlaceEvent} {after : Term} {left : Vars} → Goes heap n t here p S j q Z k → does q.vars here.0 q.term ≡ Local after left → Goes heap n t here p S j (record { term = after; vars = left; batch = begun q.term q.batch }) Z k
+pub goes-local : {heap n : ℕ} {t : TaskId} {here : PlaceId} {p q : Player} {S Z : State} {j k : List PlaceEvent} {after : Term} {left : Vars} → RunsWithoutEntry heap n t here p S j q Z k → does q.vars here.0 q.term ≡ Local after left → RunsWithoutEntry heap n t here p S j (record { term = after; vars = left; batch = begun q.term q.batch }) Z k
 goes-local stays e = local e stays
 goes-local (local h g) e = local h (goes-local g e)
 goes-local (stores cell x a told b may g) e = stores cell x a told b may (goes-local g e)
 
-pub goes-stores : {heap n : ℕ} {t : TaskId} {here : PlaceId} {p q : Player} {S Z : State} {j k : List PlaceEvent} (cell : Cell) (x : List ℕ) (a : Answer) → Goes heap n t here p S j q Z k → Tells (does q.vars here.0 q.term) here cell a → begins q.term ≡ Some x → MayCell heap Z cell → Goes heap n t here p S j (record { term = answered a q.term; vars = vars_after a q.vars; batch = begun q.term q.batch }) (after_cell Z cell) (k ++ Did t n cell x ∷ [])
+pub goes-stores : {heap n : ℕ} {t : TaskId} {here : PlaceId} {p q : Player} {S Z : State} {j k : List PlaceEvent} (cell : Cell) (x : List ℕ) (a : Answer) → RunsWithoutEntry heap n t here p S j q Z k → Tells (does q.vars here.0 q.term) here cell a → begins q.term ≡ Some x → MayCell heap Z cell → RunsWithoutEntry heap n t here p S j (record { term = answered a q.term; vars = vars_after a q.vars; batch = begun q.term q.batch }) (after_cell Z cell) (k ++ Did t n cell x ∷ [])
 goes-stores cell x a stays told b may = stores cell x a told b may stays
 goes-stores cell x a (local h g) told b may = local h (goes-stores cell x a g told b may)
 goes-stores cell x a (stores c y d t e m g) told b may = stores c y d t e m (goes-stores cell x a g told b may)
@@ -57,7 +57,7 @@ shares-on m m' h o =
       failed = o.failed ∙ h.failed;
     }
 
-pub acting-on : {L : Type 0} {shape : Shape} {code : Block} {U : Given} {m : Machine L} {k i : ℕ} {here : PlaceId} {q : Player} {mover : Mover} {G : Game} (a : Acting shape code U m k i here q mover G) (m' : Machine L) (r : Player) (mover' : Mover) (Z : State) (events : List PlaceEvent) → OnlyStores m m' → mover'.who ≡ mover.who → mover'.waits ≡ mover.waits → Goes U.heap (length G.entries) mover.who.task here a.began a.store (journal_at G.journals here.0) r Z events → IsSeat shape G.entries (tree_in U G) i r (seat_of mover') → mover'.batch ≡ r.batch → StoresAre U.heap 0 m'.stores.items (slice_set G.journals here.0 events) → Acting shape code U m' k i here r mover' G
+pub acting-on : {L : Type 0} {shape : Shape} {code : Block} {U : Given} {m : Machine L} {k i : ℕ} {here : PlaceId} {q : Player} {mover : Mover} {G : Game} (a : Acting shape code U m k i here q mover G) (m' : Machine L) (r : Player) (mover' : Mover) (Z : State) (events : List PlaceEvent) → OnlyStores m m' → mover'.who ≡ mover.who → mover'.waits ≡ mover.waits → RunsWithoutEntry U.heap (length G.entries) mover.who.task here a.began a.store (journal_at G.journals here.0) r Z events → IsSeat shape G.entries (tree_in U G) i r (seat_of mover') → mover'.batch ≡ r.batch → StoresAre U.heap 0 m'.stores.items (slice_set G.journals here.0 events) → Acting shape code U m' k i here r mover' G
 acting-on {U = U} {m = m} {here = here} {mover = mover} {G = G} a m' r mover' Z events o who waits goes is batch stored =
     let items : m'.seats.items ≡ m.seats.items = ap (λ v. v.items) o.seats in
     record {
@@ -80,7 +80,7 @@ acting-on {U = U} {m = m} {here = here} {mover = mover} {G = G} a m' r mover' Z 
         player = a.gone.player;
         store = a.gone.store;
         is_at = ap (λ (w : Caller). w.place) who ∙ a.gone.is_at;
-        goes = subst (λ (w : Caller). Goes U.heap (length G.entries) w.task here a.began a.store (journal_at G.journals here.0) r Z events) (sym who) goes;
+        goes = subst (λ (w : Caller). RunsWithoutEntry U.heap (length G.entries) w.task here a.began a.store (journal_at G.journals here.0) r Z events) (sym who) goes;
         seat_is = is;
         batch = batch;
       };
@@ -108,7 +108,7 @@ moved-seat {T = T} {seat = seat} r mover' s who waits term vars free held still 
 
 -- What the control tells.
 
-pub asked_book : (d : Does) (w : Want) → next_of d ≡ Book w → IsAsked d
+pub asked_book : (d : Does) (w : Want) → next_of d ≡ Book w → AsksOrEnds d
 asked_book (Local left vars) w e = cc
 asked_book (Makes name words) w e = cc
 asked_book (Gets name target index) w e = cc
@@ -123,7 +123,7 @@ asked_book (Prints value) w e = tt
 asked_book (Counts name) w e = tt
 asked_book (Done faults) w e = tt
 
-pub asked_done : (d : Does) → next_of d ≡ Ended → IsAsked d
+pub asked_done : (d : Does) → next_of d ≡ Ended → AsksOrEnds d
 asked_done (Local left vars) e = cc
 asked_done (Makes name words) e = cc
 asked_done (Gets name target index) e = cc
@@ -143,13 +143,13 @@ asked_done (Done faults) e = tt
 pub same : {L : Type 0} (m : Machine L) → OnlyStores m m
 same m = record { chronicle = refl; seats = refl; ready = refl; failed = refl }
 
-pub stepped-local : {L : Type 0} {shape : Shape} {code : Block} {U : Given} {m : Machine L} {k i : ℕ} {here : PlaceId} {q : Player} {mover : Mover} {G : Game} (a : Acting shape code U m k i here q mover G) (mover' : Mover) → TermSinks → next_of (does q.vars here.0 q.term) ≡ LocalStep → Leaves shape mover'.control.value (does q.vars here.0 q.term) → mover'.batch ≡ begun q.term mover.batch → mover'.who ≡ mover.who → mover'.waits ≡ mover.waits → AfterStep shape code U m k i here q mover' G None
+pub stepped-local : {L : Type 0} {shape : Shape} {code : Block} {U : Given} {m : Machine L} {k i : ℕ} {here : PlaceId} {q : Player} {mover : Mover} {G : Game} (a : Acting shape code U m k i here q mover G) (mover' : Mover) → TermSinks → next_of (does q.vars here.0 q.term) ≡ LocalStep → AfterLocalStep shape mover'.control.value (does q.vars here.0 q.term) → mover'.batch ≡ begun q.term mover.batch → mover'.who ≡ mover.who → mover'.waits ≡ mover.waits → AfterStep shape code U m k i here q mover' G None
 stepped-local {shape = shape} {U = U} {m = m} {i = i} {here = here} {q = q} {G = G} a mover' law e leaves batch who waits =
     let s = a.gone.seat_is in
     let ks = reverse (own_kinds (tree_in U G) i) in
     let l = told_local (does q.vars here.0 q.term) e in
     let r : Player = record { term = l.0; vars = l.1; batch = begun q.term q.batch } in
-    let left : StandsFor shape mover'.control.value l.0 × (mover'.control.value.vars ≡ l.1) = subst (λ (d : Does). Leaves shape mover'.control.value d) l.2 leaves in
+    let left : StandsFor shape mover'.control.value l.0 × (mover'.control.value.vars ≡ l.1) = subst (λ (d : Does). AfterLocalStep shape mover'.control.value d) l.2 leaves in
     let less : steps l.0 + 1 ≤ steps q.term = subst (λ (d : Does). Sinks q.term d) l.2 (law q.vars here.0 q.term) in
     let after : AfterLocal (Local l.0 l.1) = subst (λ (d : Does). AfterLocal d) l.2 (after-local q.vars here.0 q.term s.held) in
     let spine : LeavesSpine ks (Local l.0 l.1) = subst (λ (d : Does). LeavesSpine ks d) l.2 (spine-local ks q.vars here.0 q.term s.spine) in

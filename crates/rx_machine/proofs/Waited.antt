@@ -17,14 +17,14 @@ use Rattle.rx_control.specs.Stands.{StandsFor}
 use Rattle.rx_machine.specs.declared.machine.Machine.{Machine}
 use Rattle.rx_machine.specs.declared.seat.Mover.{Mover}
 use Rattle.rx_machine.specs.Slots.{row_of, live_task, own_kinds, seat_of}
-use Rattle.rx_sound.specs.Spine.{Spine}
+use Rattle.rx_tree_laws.specs.Spine.{Spine}
 use Rattle.rx_machine.specs.Holds.{Seated, Acting, LeadsTo}
 use Rattle.rx_machine.proofs.Live.{live_stands, change-other, change-same}
 use Rattle.rx_machine.proofs.Own.{scope-change, inner-same}
 use Rattle.rx_machine.proofs.Acted.{told-nothing, went, of-told, of-game, acted}
 use Rattle.rx_machine.proofs.Asking.{seat-id, seat_asks, moving, asks-free}
-use Rattle.rx_sound.proofs.Granting.{AfterGrant, after-grant}
-use Rattle.rx_sound.proofs.SpineGrants.{GrantsSpine, spine-grant}
+use Rattle.rx_tree_laws.proofs.Granting.{AfterGrant, after-grant}
+use Rattle.rx_tree_laws.proofs.SpineGrants.{GrantsSpine, spine-grant}
 
 -- the first scope that passes is that of the first kind
 kind-found : (p : Scope → Bool) (gs : List Scope) (k : Kind) (ks : List Kind) → map (λ g. g.kind) (filter p gs) ≡ k ∷ ks → (g : Scope) × (find p gs ≡ Some g) × (g.kind ≡ k)

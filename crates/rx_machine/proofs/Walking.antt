@@ -11,10 +11,10 @@ use Rattle.rx_rules.specs.declared.tasks.Kind.TheVariants.{Call}
 use Rattle.rx_rules.specs.declared.entries.Act.{Act}
 use Rattle.rx_rules.specs.declared.entries.Act.TheVariants.{Open, At as Calls, Spawn, Arrive, Wait, Release, End, Print, Census}
 use Rattle.rx_rules.specs.declared.entries.Entry.{Entry}
-use Rattle.rx_sound.specs.Sound.{Sound}
-use Rattle.rx_sound.specs.Enabling.{unstruck_in, is_left, nearest_opener, GoesUp, WalkGoesUp, WalkEnds}
-use Rattle.rx_sound.proofs.Changes.{each_found}
-use Rattle.rx_sound.proofs.Reach.{task_below}
+use Rattle.rx_tree_laws.specs.Sound.{Sound}
+use Rattle.rx_tree_laws.specs.Enabling.{unstruck_in, is_left, nearest_opener, GoesUp, WalkGoesUp, WalkEnds}
+use Rattle.rx_tree_laws.proofs.Changes.{each_found}
+use Rattle.rx_tree_laws.proofs.Reach.{task_below}
 use Rattle.rx_runs.specs.Coming.{CameTo, GamesCome}
 use Rattle.rx_chronicle.specs.Told.{opener_told, parent_told}
 use Rattle.rx_chronicle.specs.Noting.{IsNoted, NotesTell}

@@ -18,7 +18,7 @@ use Rattle.rx_store.specs.Kepts.{StoresAre}
 use Rattle.rx_syntax.specs.Shape.{Shape}
 use Rattle.rx_machine.specs.declared.machine.Machine.{Machine}
 use Rattle.rx_store.proofs.Journals.{journals_are}
-use Rattle.rx_machine.specs.Holds.{Holds, Finished, LeadsTo}
+use Rattle.rx_machine.specs.Holds.{MachineInvariant, Finished, LeadsTo}
 use Rattle.rx_machine.specs.Runs.{WentOn, picks_in, RanFrom, Gives}
 
 -- Turns that move tasks.
@@ -69,14 +69,14 @@ turn-uses U k G G' used planned t = let a = turn-adds U k G G' used planned t in
 -- after i turns from a game on, of which j used a pick, the machine stands for a game
 pub record RunTo {L : Type 0} (shape : Shape) (code : Block) (U : Given) (picks : ℕ → ℕ) (G : Game) (m : Machine L) (i j : ℕ) : Type 0 where
   pub game : Game
-  pub holds : Holds shape code U m game
+  pub holds : MachineInvariant shape code U m game
   pub added : List Entry
   pub adds : game.entries ≡ G.entries ++ added
   pub size : length added ≡ i
   pub used : j ≡ picks_in added
   pub made : (n : ℕ) (G' : Game) → Turns U picks n j game G' → Turns U picks (i + n) 0 G G'
 
-pub run-begins : {L : Type 0} (shape : Shape) (code : Block) (U : Given) (picks : ℕ → ℕ) (G : Game) (m : Machine L) → Holds shape code U m G → RunTo shape code U picks G m 0 0
+pub run-begins : {L : Type 0} (shape : Shape) (code : Block) (U : Given) (picks : ℕ → ℕ) (G : Game) (m : Machine L) → MachineInvariant shape code U m G → RunTo shape code U picks G m 0 0
 run-begins shape code U picks G m h =
     record {
       game = G;

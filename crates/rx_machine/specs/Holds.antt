@@ -8,7 +8,7 @@ use Rattle.rx_rules.specs.Store.{State}
 use Rattle.rx_rules.specs.Plays.{journal_at}
 use Rattle.rx_rules.specs.Reached.{Reached}
 use Rattle.rx_rules.specs.Run.{Given, in_all, Proper, NoRoot, NoneDue, EndsWithRoot}
-use Rattle.rx_rules.specs.Picked.{Game, Player, Goes, Comes, tree_in, enabled}
+use Rattle.rx_rules.specs.Picked.{Game, Player, RunsWithoutEntry, MadeByTurns, tree_in, enabled}
 use Rattle.rx_runs.specs.SomeWords.{MakesSome}
 use Rattle.rx_history.specs.Setups.{given}
 use Rattle.rx_store.specs.Kepts.{StoresAre}
@@ -18,7 +18,7 @@ use Rattle.rx_machine.specs.declared.machine.Machine.{Machine}
 use Rattle.rx_machine.specs.declared.seat.Seat.{Seat}
 use Rattle.rx_machine.specs.declared.seat.Mover.{Mover}
 use Rattle.rx_machine.specs.Slots.{row_of, seat_of, seat_at, SlotIs, IsSeat}
-use Rattle.rx_machine.specs.Picking.{IsReady}
+use Rattle.rx_machine.specs.Picking.{AreEnabled}
 
 -- a script and a setup for which a machine runs on: a checked script and a proper setup
 pub record RunsOn (code : Block) (U : Given) : Type 0 where
@@ -29,7 +29,7 @@ pub record RunsOn (code : Block) (U : Given) : Type 0 where
 -- what a machine and a game share beside the seats
 pub record Shares {L : Type 0} (code : Block) (U : Given) (m : Machine L) (G : Game) : Type 0 where
   pub on : RunsOn code U
-  pub comes : Comes code U G
+  pub comes : MadeByTurns code U G
   pub setup : given m.chronicle.setup ≡ U
   pub entries : m.chronicle.entries ≡ G.entries
   pub slots : length m.seats.items ≡ (tree_in U G).next_task
@@ -43,11 +43,11 @@ pub record Seated {L : Type 0} (shape : Shape) (code : Block) (U : Given) (m : M
   pub seats : (n : ℕ) → SlotIs shape G.entries (tree_in U G) G.players n (seat_at m.seats.items n)
 
 -- the machine stands for the game, in which the root stands
-pub record Holds {L : Type 0} (shape : Shape) (code : Block) (U : Given) (m : Machine L) (G : Game)
+pub record MachineInvariant {L : Type 0} (shape : Shape) (code : Block) (U : Given) (m : Machine L) (G : Game)
     : Type 0 where
   pub seated : Seated shape code U m G
   pub unreleased : NoRoot G.entries
-  pub ready : IsReady (tree_in U G) m.ready.members
+  pub ready : AreEnabled (tree_in U G) m.ready.members
 
 -- it stands for the game, but for that and for the seat of task i, which has been taken out to make a turn
 pub record HoldsBut {L : Type 0} (shape : Shape) (code : Block) (U : Given) (m : Machine L) (i : ℕ)
@@ -69,7 +69,7 @@ pub record HasGone (shape : Shape) (U : Given) (i : ℕ) (here : PlaceId) (p q :
   pub player : slice_get G.players i ≡ Some p
   pub store : slice_get G.stores here.0 ≡ Some S
   pub is_at : mover.who.place ≡ At here
-  pub goes : Goes U.heap (length G.entries) mover.who.task here p S (journal_at G.journals here.0) q Z j
+  pub goes : RunsWithoutEntry U.heap (length G.entries) mover.who.task here p S (journal_at G.journals here.0) q Z j
   pub seat_is : IsSeat shape G.entries (tree_in U G) i q (seat_of mover)
   pub batch : mover.batch ≡ q.batch
 

@@ -10,8 +10,8 @@ use Rattle.rx_rules.specs.Tree.{task_of}
 use Rattle.rx_rules.specs.Store.{State}
 use Rattle.rx_rules.specs.Plays.{journal_at}
 use Rattle.rx_rules.specs.Run.{Given, NoneDue}
-use Rattle.rx_rules.specs.Picked.{Game, Player, Turn, Goes, enabled, tree_in}
-use Rattle.rx_store.specs.Kept.{Kept}
+use Rattle.rx_rules.specs.Picked.{Game, Player, Turn, RunsWithoutEntry, enabled, tree_in}
+use Rattle.rx_store.specs.Kept.{StoreView}
 use Rattle.rx_machine.specs.declared.machine.Machine.{Machine}
 use Rattle.rx_store.specs.Kepts.{StoresAre}
 
@@ -33,7 +33,7 @@ pub record HasBegun (U : Given) (k : ℕ) (G : Game) (es : List Entry) (js : Lis
   pub journals_after : BeginEach js after.journals
 
 -- the stores have the events of a part of the walk of the task that the pick k moves
-pub record HasTold (U : Given) (k : ℕ) (G : Game) (items : List Kept) : Type 0 where
+pub record HasTold (U : Given) (k : ℕ) (G : Game) (items : List StoreView) : Type 0 where
   pub task : Task
   pub here : PlaceId
   pub began : Player
@@ -47,7 +47,7 @@ pub record HasTold (U : Given) (k : ℕ) (G : Game) (items : List Kept) : Type 0
   pub is_at : task.place ≡ At here
   pub player : slice_get G.players task.number.0 ≡ Some began
   pub found : slice_get G.stores here.0 ≡ Some store
-  pub goes : Goes U.heap (length G.entries) task.number here began store (journal_at G.journals here.0) now left events
+  pub goes : RunsWithoutEntry U.heap (length G.entries) task.number here began store (journal_at G.journals here.0) now left events
   pub stores : StoresAre U.heap 0 items (slice_set G.journals here.0 events)
 
 -- a turn with the pick k was refused from the game: what is told of it begins what the turn leads to, and as many tasks are told as

@@ -16,16 +16,16 @@ use Rattle.rx_syntax.specs.Shape.{Shape}
 use Rattle.rx_machine.specs.declared.machine.Machine.{Machine}
 use Rattle.rx_machine.specs.declared.seat.Seat.{Seat}
 use Rattle.rx_machine.specs.Slots.{row_of, seat_at}
-use Rattle.rx_machine.specs.Picking.{IsReady}
-use Rattle.rx_machine.specs.Holds.{Seated, Holds, Finished, CanTurn, LeadsTo}
+use Rattle.rx_machine.specs.Picking.{AreEnabled}
+use Rattle.rx_machine.specs.Holds.{Seated, MachineInvariant, Finished, CanTurn, LeadsTo}
 use Rattle.rx_machine.specs.Refusals.{HasFailed}
 
 -- a turn can be made, nothing planned is due, and it is told which tasks are enabled
-pub record Calm {L : Type 0} (shape : Shape) (code : Block) (U : Given) (m : Machine L) (G : Game)
+pub record ReadyForTurn {L : Type 0} (shape : Shape) (code : Block) (U : Given) (m : Machine L) (G : Game)
     : Type 0 where
   pub can : CanTurn shape code U m G
   pub none_due : NoneDue (length G.entries) G.plan
-  pub ready : IsReady (tree_in U G) m.ready.members
+  pub ready : AreEnabled (tree_in U G) m.ready.members
 
 -- the entry is due: a death or a join
 pub record Falling {L : Type 0} (shape : Shape) (code : Block) (U : Given) (m : Machine L) (e : Entry)
@@ -56,7 +56,7 @@ pub record HasMoved {L : Type 0} (shape : Shape) (code : Block) (U : Given) (m :
   pub found : task_of (tree_in U G) mover.number ≡ Some mover
   pub hung : mover.under ≡ under
   pub slots : before ≡ (tree_in U G).next_task
-  pub ready : IsReady (tree_in U G) m.ready.members
+  pub ready : AreEnabled (tree_in U G) m.ready.members
 
 -- a turn with the pick k leads to a game for which the machine stands, but for what tells which tasks are enabled
 abbrev pub AfterTurn : {L : Type 0} → Shape → Block → Given → Machine L → ℕ → Game → Type 0
@@ -64,27 +64,27 @@ AfterTurn shape code U m k G = LeadsTo (Turn U k G true) (Seated shape code U m)
 
 -- a turn, with the pick or as a death or a join, leads to a game for which the machine stands
 abbrev pub WentOn : {L : Type 0} → Shape → Block → Given → Machine L → ℕ → Bool → Game → Type 0
-WentOn shape code U m k used G = LeadsTo (Turn U k G used) (Holds shape code U m)
+WentOn shape code U m k used G = LeadsTo (Turn U k G used) (MachineInvariant shape code U m)
 
 -- there is a game for which the machine stands
 abbrev pub CanRun : {L : Type 0} → Shape → Machine L → Type 0
-CanRun shape m = (code : Block) × (U : Given) × (G : Game) × Holds shape code U m G
+CanRun shape m = (code : Block) × (U : Given) × (G : Game) × MachineInvariant shape code U m G
 
 -- from each game for which the machine stood, it went on with the first of the picks or without it, and these are left
 abbrev pub HasGoneOn : {L : Type 0} → Shape → Machine L → Machine L → (ℕ → ℕ) → (ℕ → ℕ) → Type 0
 HasGoneOn shape m m' picks left =
     (used : Bool)
-    × ((code : Block) (U : Given) (G : Game) → Holds shape code U m G → WentOn shape code U m' (picks 0) used G)
+    × ((code : Block) (U : Given) (G : Game) → MachineInvariant shape code U m G → WentOn shape code U m' (picks 0) used G)
     × ((j : ℕ) → left j ≡ picks (used_after used j))
 
 -- from each game for which the machine stood, the root was released
 abbrev pub HasEnded : {L : Type 0} → Shape → Machine L → Machine L → ℕ → Type 0
 HasEnded shape m m' k =
-    (code : Block) (U : Given) (G : Game) → Holds shape code U m G → LeadsTo (Turn U k G false) (Finished U m')
+    (code : Block) (U : Given) (G : Game) → MachineInvariant shape code U m G → LeadsTo (Turn U k G false) (Finished U m')
 
 -- from each game for which the machine stood, a turn with the pick k was refused
 abbrev pub WasRefused : {L : Type 0} → Shape → Machine L → Machine L → ℕ → Type 0
-WasRefused shape m m' k = (code : Block) (U : Given) (G : Game) → Holds shape code U m G → HasFailed U k m' G
+WasRefused shape m m' k = (code : Block) (U : Given) (G : Game) → MachineInvariant shape code U m G → HasFailed U k m' G
 
 -- the number of picks that the entries used: one for each that is a task's
 abbrev pub picks_in : List Entry → ℕ

@@ -18,8 +18,8 @@ use Rattle.rx_machine.specs.declared.seat.Seat.{Seat}
 use Rattle.rx_machine.specs.declared.seat.Work.{Work}
 use Rattle.rx_machine.specs.declared.seat.Work.TheVariants.{Seed as NotBegun, Control as Begun}
 use Rattle.rx_machine.specs.declared.seat.Mover.{Mover}
-use Rattle.rx_sound.specs.Held.{is_held, HeldInFront}
-use Rattle.rx_sound.specs.Spine.{Spine}
+use Rattle.rx_tree_laws.specs.Held.{is_held, HeldInFront}
+use Rattle.rx_tree_laws.specs.Spine.{Spine}
 
 -- the task of a seat, as the tree has it
 abbrev pub row_of : Seat → Task

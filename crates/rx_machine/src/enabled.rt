@@ -5,10 +5,10 @@ ghost use Rattle.rx_rules.specs.Tree.{on_chain, the_root};
 ghost use Rattle.rx_rules.specs.Run.{Given};
 ghost use Rattle.rx_rules.specs.Picked.{Game, enabled, tree_in};
 ghost use Rattle.rx_rank.specs.Numbers.{Ascends, marked};
-ghost use Rattle.rx_sound.specs.Enabling.{nearest_opener as nearest};
+ghost use Rattle.rx_tree_laws.specs.Enabling.{nearest_opener as nearest};
 ghost use Rattle.rx_syntax.specs.Shape.{Shape};
 ghost use Rattle.rx_machine.specs.Slots.{seat_at};
-ghost use Rattle.rx_machine.specs.Holds.{Holds, CanTurn, Finished};
+ghost use Rattle.rx_machine.specs.Holds.{MachineInvariant, CanTurn, Finished};
 ghost use Rattle.rx_machine.specs.Inside.Games.{SomeTurning, EachTurning, SomeMoved, EachNoted};
 ghost use Rattle.rx_machine.specs.Refusals.{HasFailed};
 ghost use Rattle.rx_machine.specs.Picking.{slot_able, is_listed};
@@ -24,7 +24,7 @@ impl<L: FinishLedger> Machine<L> {
         requires game { SomeTurning self.now }
         ensures { EachTurning self.now (λ U G. result ≡ slot_able (tree_in U G) (seat_at self.now.seats.items i)) }
     {
-        rx_sound::waiter_has_scope();
+        rx_tree_laws::waiter_has_scope();
         match &self.seats[i] {
             None => false,
             Some(seat) => !seat.waits || self.chronicle.ready(seat.who),
@@ -34,14 +34,14 @@ impl<L: FinishLedger> Machine<L> {
     /// How many tasks are enabled in the tree to which the history folds. It may be asked at any time: after the end of the run it
     /// is 0, and after a refused turn it is what it was before that turn. It takes no memory.
     pub fn enabled(&self) -> u32
-        ensures holds { (shape : Shape) (code : Block) (U : Given) (G : Game) → Holds shape code U self.now G
+        ensures holds { (shape : Shape) (code : Block) (U : Given) (G : Game) → MachineInvariant shape code U self.now G
             → result ≡ length (enabled (tree_in U G)) }
         ensures finished { (U : Given) (G : Game) → Finished U self.now G → result ≡ length (enabled (tree_in U G)) }
         ensures refused { (U : Given) (k : ℕ) (G : Game) → HasFailed U k self.now G → result ≡ length (enabled (tree_in U G)) }
     {
         rx_runs::games_come();
-        rx_sound::fold_is_reached();
-        rx_sound::reached_is_sound();
+        rx_tree_laws::fold_is_reached();
+        rx_tree_laws::reached_is_sound();
         self.ready.len()
     }
 
@@ -54,8 +54,8 @@ impl<L: FinishLedger> Machine<L> {
         ensures same { self.new ≡ record self.old { ready = self.new.ready } }
         ensures ready { EachNoted self.old self.new i under before }
     {
-        rx_sound::reached_is_sound();
-        rx_sound::others_stay_enabled();
+        rx_tree_laws::reached_is_sound();
+        rx_tree_laws::others_stay_enabled();
         if self.seats[i].is_none() {
             self.note_end(i, under);
             return;
@@ -76,9 +76,9 @@ impl<L: FinishLedger> Machine<L> {
         ensures same { self.new ≡ record self.old { ready = self.new.ready } }
         ensures ready { (before : ℕ) → EachNoted self.old self.new i under before }
     {
-        rx_sound::reached_is_sound();
-        rx_sound::end_frees_one();
-        rx_sound::way_up_stays();
+        rx_tree_laws::reached_is_sound();
+        rx_tree_laws::end_frees_one();
+        rx_tree_laws::way_up_stays();
         self.note(i);
         match self.nearest_opener(under) {
             Some(opener) => self.note(opener.0 as usize),
@@ -95,8 +95,8 @@ impl<L: FinishLedger> Machine<L> {
             → result ≡ nearest (tree_in U G) (Some under)) }
     {
         rx_runs::games_come();
-        rx_sound::walk_goes_up();
-        rx_sound::walk_ends_at_root();
+        rx_tree_laws::walk_goes_up();
+        rx_tree_laws::walk_ends_at_root();
         rx_chronicle::laws::notes_tell();
         let mut scope = under;
         'scopes: while scope.0 != 0 {

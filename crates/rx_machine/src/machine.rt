@@ -9,7 +9,7 @@ ghost use Rattle.rx_rules.specs.Picked.{start_game};
 ghost use Rattle.rx_history.specs.Setups.{given};
 ghost use Rattle.rx_syntax.specs.Shape.{Stands};
 ghost use Rattle.rx_machine.specs.Slots.{row_of, root_row, IsWork};
-ghost use Rattle.rx_machine.specs.Holds.{Holds};
+ghost use Rattle.rx_machine.specs.Holds.{MachineInvariant};
 
 use crate::seat::{Seat, Work};
 use rx_base::{NoMemory, PlaceId, ScopeId, TaskId};
@@ -51,7 +51,7 @@ impl<L: FinishLedger> Machine<L> {
         requires proper { Proper (given setup.now) }
         requires opened { L.stands ledger (length (given setup.now).joins) (opening (given setup.now).places) }
         ensures { IfOk result (λ m. (code : Block) → Stands p.now.script code
-            → Holds p.now.script code (given setup.now) m (start_game code (given setup.now))) }
+            → MachineInvariant p.now.script code (given setup.now) m (start_game code (given setup.now))) }
     {
         checked(p);
         let copy = setup.copy(alloc)?;

@@ -1,7 +1,7 @@
 // How the task that a pick moves comes to its next entry; and the turns of an arrival, a print and a census.
 ghost use Rattle.std.specs.Prelude.{◌≡◌, ℕ, OnOk, OnErr};
 ghost use Rattle.rx_rules.specs.Terms.{Prints, Counts};
-ghost use Rattle.rx_chronicle.specs.Requests.{IsReady};
+ghost use Rattle.rx_chronicle.specs.Requests.{MayAskEntry};
 ghost use Rattle.rx_machine.specs.Refusals.{HasStopped};
 ghost use Rattle.rx_machine.specs.Runs.{AfterTurn};
 ghost use Rattle.rx_machine.specs.Inside.Games.{SomeTaken, EachTaken, SomeActing, EachActing, EachStopped, SomeAsking, EachMore};
@@ -20,14 +20,14 @@ use rx_rules::Where;
 impl<L: FinishLedger> Machine<L> {
     // Moves the task of a slot, which the pick moves, up to its next entry.
     pub(crate) fn move_task(&mut self, p: &Program, i: usize) -> Result<(), NoMemory>
-        requires ready { IsReady self.old.chronicle }
+        requires ready { MayAskEntry self.old.chronicle }
         requires game { SomeTaken p.now.script self.old i }
         ensures made { OnOk result (EachTaken p.now.script self.old i (λ code U k G. AfterTurn p.now.script code U self.new k G)) }
         ensures refused { OnErr result (EachTaken p.now.script self.old i (λ code U k G. HasStopped U k G self.new)) }
         ensures setup { OnErr result (self.new.chronicle.setup ≡ self.old.chronicle.setup) }
         ensures tasks { self.new.ready ≡ self.old.ready }
     {
-        rx_sound::reached_is_sound();
+        rx_tree_laws::reached_is_sound();
         rx_runs::games_come();
         match take_seat(&mut self.seats, i) {
             Some(seat) => match seat.who.place {
@@ -50,7 +50,7 @@ impl<L: FinishLedger> Machine<L> {
         mut mover: Mover,
         here: PlaceId,
     ) -> Result<(), NoMemory>
-        requires ready { IsReady self.old.chronicle }
+        requires ready { MayAskEntry self.old.chronicle }
         requires game { SomeActing p.now.script self.old i here mover }
         ensures made { OnOk result (EachActing p.now.script self.old i here mover (λ code U k q G.
             AfterTurn p.now.script code U self.new k G)) }
@@ -75,7 +75,7 @@ impl<L: FinishLedger> Machine<L> {
 
     // Ends a turn by an arrival. It takes no memory.
     fn arrive(&mut self, i: usize, mut seat: Seat, to: PlaceId) -> Result<(), NoMemory>
-        requires ready { IsReady self.old.chronicle }
+        requires ready { MayAskEntry self.old.chronicle }
         requires game { SomeLanding self.old i to seat }
         ensures made { OnOk result (EachLanding self.old i to seat (λ shape code U k G. AfterTurn shape code U self.new k G)) }
         ensures refused { OnErr result (self.new ≡ self.old) }
@@ -92,7 +92,7 @@ impl<L: FinishLedger> Machine<L> {
 
     // Ends a turn by a print.
     fn print(&mut self, p: &Program, i: usize, mover: Mover, value: i64) -> Result<(), NoMemory>
-        requires ready { IsReady self.old.chronicle }
+        requires ready { MayAskEntry self.old.chronicle }
         requires game { SomeAsking p.now.script self.old i mover (λ d. d ≡ Prints value) }
         ensures made { OnOk result (HasAsked p.now.script self.old self.new i mover (λ d. d ≡ Prints value)) }
         ensures refused { OnErr result (self.new ≡ self.old) }
@@ -116,7 +116,7 @@ impl<L: FinishLedger> Machine<L> {
 
     // Ends a turn by a census: the task is told the number of places.
     fn census(&mut self, p: &Program, i: usize, mover: Mover) -> Result<(), NoMemory>
-        requires ready { IsReady self.old.chronicle }
+        requires ready { MayAskEntry self.old.chronicle }
         requires game { SomeAsking p.now.script self.old i mover (λ d. (name : ℕ) × (d ≡ Counts name)) }
         ensures made { OnOk result (HasAsked p.now.script self.old self.new i mover (λ d. (name : ℕ) × (d ≡ Counts name))) }
         ensures refused { OnErr result (EachMore p.now.script self.old self.new i mover (λ d. (name : ℕ) × (d ≡ Counts name))) }

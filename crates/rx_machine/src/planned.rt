@@ -25,8 +25,8 @@ impl<L: FinishLedger> Machine<L> {
         ensures { EachDue self.old (entry_of due) (λ shape code U k G. WentOn shape code U self.new k false G) }
     {
         rx_runs::games_come();
-        rx_sound::fold_is_reached();
-        rx_sound::reached_is_sound();
+        rx_tree_laws::fold_is_reached();
+        rx_tree_laws::reached_is_sound();
         self.chronicle.pass(due, at);
         match due {
             Due::Join(_) => {}

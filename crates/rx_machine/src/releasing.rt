@@ -3,7 +3,7 @@ ghost use Rattle.std.specs.Prelude.{◌≡◌, ℕ, List, OnOk, OnErr};
 ghost use Rattle.rx_base.specs.declared.values.Fault.{Fault};
 ghost use Rattle.rx_rules.specs.Terms.{Waits, Releases, Done};
 ghost use Rattle.rx_syntax.specs.Shape.{Shape};
-ghost use Rattle.rx_chronicle.specs.Requests.{IsReady};
+ghost use Rattle.rx_chronicle.specs.Requests.{MayAskEntry};
 ghost use Rattle.rx_machine.specs.Inside.Games.{SomeAsking, EachMore};
 ghost use Rattle.rx_machine.specs.Inside.Acts.{HasAsked};
 
@@ -18,7 +18,7 @@ use rx_finish::FinishLedger;
 impl<L: FinishLedger> Machine<L> {
     /// Ends a turn by the wait for a finish whose body has ended.
     pub(crate) fn wait(&mut self, p: &Program, i: usize, mover: Mover) -> Result<(), NoMemory>
-        requires ready { IsReady self.old.chronicle }
+        requires ready { MayAskEntry self.old.chronicle }
         requires game { SomeAsking p.now.script self.old i mover (λ d. (faults : List Fault) × (d ≡ Waits faults)) }
         ensures made { OnOk result (HasAsked p.now.script self.old self.new i mover (λ d. (faults : List Fault) × (d ≡ Waits faults))) }
         ensures refused { OnErr result (self.new ≡ self.old) }
@@ -42,7 +42,7 @@ impl<L: FinishLedger> Machine<L> {
 
     /// Ends a turn by the release of the scope at which the task waits.
     pub(crate) fn release(&mut self, p: &Program, i: usize, mover: Mover) -> Result<(), NoMemory>
-        requires ready { IsReady self.old.chronicle }
+        requires ready { MayAskEntry self.old.chronicle }
         requires game { SomeAsking p.now.script self.old i mover (λ d. d ≡ Releases) }
         ensures made { OnOk result (HasAsked p.now.script self.old self.new i mover (λ d. d ≡ Releases)) }
         ensures refused { OnErr result (EachMore p.now.script self.old self.new i mover (λ d. d ≡ Releases)) }
@@ -50,9 +50,9 @@ impl<L: FinishLedger> Machine<L> {
         ensures tasks { self.new.ready ≡ self.old.ready }
     {
         rx_runs::games_come();
-        rx_sound::reached_is_sound();
-        rx_sound::release_keeps_others();
-        rx_sound::release_pops_newest();
+        rx_tree_laws::reached_is_sound();
+        rx_tree_laws::release_keeps_others();
+        rx_tree_laws::release_pops_newest();
         rx_chronicle::laws::release_uncovers_parent();
         let Mover {
             mut who,
@@ -74,7 +74,7 @@ impl<L: FinishLedger> Machine<L> {
 
     /// Ends a turn by the end of the task, whose slot stays empty.
     pub(crate) fn end(&mut self, mover: Mover) -> Result<(), NoMemory>
-        requires ready { IsReady self.old.chronicle }
+        requires ready { MayAskEntry self.old.chronicle }
         requires game { (shape : Shape) × (i : ℕ)
             × SomeAsking shape self.old i mover (λ d. (faults : List Fault) × (d ≡ Done faults)) }
         ensures made { OnOk result ((shape : Shape) (i : ℕ)

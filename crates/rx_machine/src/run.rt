@@ -4,7 +4,7 @@ ghost use Rattle.rx_rules.specs.Code.{Block};
 ghost use Rattle.rx_rules.specs.Run.{Given};
 ghost use Rattle.rx_rules.specs.Picked.{Game, IsPicked, start_game};
 ghost use Rattle.rx_history.specs.Events.{events_of};
-ghost use Rattle.rx_machine.specs.Holds.{Holds, Finished};
+ghost use Rattle.rx_machine.specs.Holds.{MachineInvariant, Finished};
 ghost use Rattle.rx_machine.specs.Refusals.{HasBegun, HasFailed};
 ghost use Rattle.rx_machine.specs.Runs.{CanRun, RanFrom, Gives};
 ghost use Rattle.rx_history.specs.Setups.{given, to_join};
@@ -31,9 +31,9 @@ impl<L: FinishLedger> Machine<L> {
         picks: &mut P,
     ) -> Result<(History, Journals, L), NoMemory>
         requires game { self.failed ≡ false → CanRun p.now.script self }
-        ensures ran { IfOk result (λ r. (code : Block) (U : Given) (G : Game) → Holds p.now.script code U self G
+        ensures ran { IfOk result (λ r. (code : Block) (U : Given) (G : Game) → MachineInvariant p.now.script code U self G
             → RanFrom L.stands code U (P.number picks.old) (P.number picks.new) G r) }
-        ensures picked { IfOk result (λ r. (code : Block) (U : Given) → Holds p.now.script code U self (start_game code U)
+        ensures picked { IfOk result (λ r. (code : Block) (U : Given) → MachineInvariant p.now.script code U self (start_game code U)
             → IsPicked code U (P.number picks.old) r.0.entries (events_of r.1)) }
         ensures failed { OnOk result (self.failed ≡ false) }
         ensures stays { self.failed ≡ true → picks.new ≡ picks.old }
@@ -56,7 +56,7 @@ impl<L: FinishLedger> Machine<L> {
         ensures history { result.0 ≡ self.chronicle }
         ensures journals { events_of result.1 ≡ map (λ s. s.events) self.stores.items }
         ensures ledger { L.stands result.2 (to_join (given self.chronicle.setup) (tree_told self.chronicle)) (tree_told self.chronicle) }
-        ensures holds { (shape : Shape) (code : Block) (U : Given) (G : Game) → Holds shape code U self G
+        ensures holds { (shape : Shape) (code : Block) (U : Given) (G : Game) → MachineInvariant shape code U self G
             → Gives L.stands U G result }
         ensures finished { (U : Given) (G : Game) → Finished U self G → Gives L.stands U G result }
         ensures refused { (U : Given) (k : ℕ) (G : Game) → HasFailed U k self G

@@ -1,7 +1,7 @@
 // The turns that open a scope or start a task.
 ghost use Rattle.std.specs.Prelude.{◌≡◌, OnOk, OnErr};
 ghost use Rattle.rx_rules.specs.Terms.{Opens, Calls, Spawns};
-ghost use Rattle.rx_chronicle.specs.Requests.{IsReady};
+ghost use Rattle.rx_chronicle.specs.Requests.{MayAskEntry};
 ghost use Rattle.rx_machine.specs.Inside.Games.{SomeAsking, SomeDoing};
 ghost use Rattle.rx_machine.specs.Inside.Acts.{HasAsked, HasDone};
 
@@ -19,7 +19,7 @@ impl<L: FinishLedger> Machine<L> {
         i: usize,
         mover: Mover,
     ) -> Result<(), NoMemory>
-        requires ready { IsReady self.old.chronicle }
+        requires ready { MayAskEntry self.old.chronicle }
         requires game { SomeAsking p.now.script self.old i mover (λ d. d ≡ Opens) }
         ensures made { OnOk result (HasAsked p.now.script self.old self.new i mover (λ d. d ≡ Opens)) }
         ensures refused { OnErr result (self.new ≡ self.old) }
@@ -50,13 +50,13 @@ impl<L: FinishLedger> Machine<L> {
         here: PlaceId,
         to: PlaceId,
     ) -> Result<(), NoMemory>
-        requires ready { IsReady self.old.chronicle }
+        requires ready { MayAskEntry self.old.chronicle }
         requires game { SomeDoing p.now.script self.old i here mover (λ d. d ≡ Calls to.0) }
         ensures made { OnOk result (HasDone p.now.script self.old self.new i here mover (λ d. d ≡ Calls to.0)) }
         ensures refused { OnErr result (self.new ≡ record self.old { seats = self.new.seats }) }
         ensures tasks { self.new.ready ≡ self.old.ready }
     {
-        rx_sound::reached_is_sound();
+        rx_tree_laws::reached_is_sound();
         rx_runs::games_come();
         rx_runs::known_places_are_there();
         rx_runs::going_tells_no_places();
@@ -90,13 +90,13 @@ impl<L: FinishLedger> Machine<L> {
         here: PlaceId,
         to: PlaceId,
     ) -> Result<(), NoMemory>
-        requires ready { IsReady self.old.chronicle }
+        requires ready { MayAskEntry self.old.chronicle }
         requires game { SomeDoing p.now.script self.old i here mover (λ d. d ≡ Spawns to.0) }
         ensures made { OnOk result (HasDone p.now.script self.old self.new i here mover (λ d. d ≡ Spawns to.0)) }
         ensures refused { OnErr result (self.new ≡ record self.old { seats = self.new.seats }) }
         ensures tasks { self.new.ready ≡ self.old.ready }
     {
-        rx_sound::reached_is_sound();
+        rx_tree_laws::reached_is_sound();
         rx_runs::games_come();
         rx_runs::known_places_are_there();
         rx_runs::going_tells_no_places();

@@ -5,7 +5,7 @@ ghost use Rattle.rx_rules.specs.Plays.{begun};
 ghost use Rattle.rx_rules.specs.Picked.{Player};
 ghost use Rattle.rx_history.specs.declared.step.Next.TheVariants.{Cell};
 ghost use Rattle.rx_history.specs.Next.{next_of};
-ghost use Rattle.rx_control.specs.Stands.{StandsFor, Leaves};
+ghost use Rattle.rx_control.specs.Stands.{StandsFor, AfterLocalStep};
 ghost use Rattle.rx_machine.specs.Holds.{Acting};
 ghost use Rattle.rx_machine.specs.Refusals.{HasTold};
 ghost use Rattle.rx_machine.specs.Inside.Requests.{IsRequest, OnlyStores, AfterStep};
@@ -118,7 +118,7 @@ impl<L: FinishLedger> Machine<L> {
 fn local_step(alloc: Global, p: &Program, mover: &mut Mover, here: PlaceId) -> Result<(), NoMemory>
     requires { (t : Term) × StandsFor p.now.script mover.old.control.value t }
     ensures { OnOk result ((t : Term) → StandsFor p.now.script mover.old.control.value t
-        → Leaves p.now.script mover.new.control.value (does mover.old.control.value.vars here.0 t)
+        → AfterLocalStep p.now.script mover.new.control.value (does mover.old.control.value.vars here.0 t)
         × (mover.new.batch ≡ begun t mover.old.batch)
         × (mover.new.who ≡ mover.old.who) × (mover.new.waits ≡ mover.old.waits)) }
 {

@@ -4,7 +4,7 @@ ghost use Rattle.rx_rules.specs.Picked.{Turn as MadeTurn};
 ghost use Rattle.rx_machine.specs.Holds.{Finished, LeadsTo};
 ghost use Rattle.rx_machine.specs.Refusals.{HasBegun};
 ghost use Rattle.rx_machine.specs.Runs.{WentOn, CanRun, HasGoneOn, HasEnded, WasRefused};
-ghost use Rattle.rx_chronicle.specs.Requests.{IsReady};
+ghost use Rattle.rx_chronicle.specs.Requests.{MayAskEntry};
 ghost use Rattle.rx_machine.specs.Inside.Games.{SomeCalm, EachCalm};
 
 use crate::Picks;
@@ -70,8 +70,8 @@ impl<L: FinishLedger> Machine<L> {
     {
         rx_runs::games_come();
         rx_runs::games_go_on();
-        rx_sound::fold_is_reached();
-        rx_sound::reached_is_sound();
+        rx_tree_laws::fold_is_reached();
+        rx_tree_laws::reached_is_sound();
         let at = self.chronicle.room()?;
         let tasks = self.seats.len() as u32 + 1;
         self.ready.room(tasks)?;
@@ -87,7 +87,7 @@ impl<L: FinishLedger> Machine<L> {
     // Makes the turn of a pick, nothing planned being due: true where an enabled task has moved, false where none is enabled and the
     // root is released.
     fn take_pick<P: Picks>(&mut self, p: &Program, picks: &mut P) -> Result<bool, NoMemory>
-        requires ready { IsReady self.old.chronicle }
+        requires ready { MayAskEntry self.old.chronicle }
         requires slots { length self.old.seats.items < self.old.ready.room }
         requires game { SomeCalm p.now.script self.old }
         ensures moved { result ≡ Ok true → EachCalm p.now.script self.old (λ code U G.
@@ -103,9 +103,9 @@ impl<L: FinishLedger> Machine<L> {
     {
         rx_runs::games_come();
         rx_runs::games_go_on();
-        rx_sound::reached_is_sound();
-        rx_sound::none_enabled_is_quiet();
-        rx_sound::fold_is_reached();
+        rx_tree_laws::reached_is_sound();
+        rx_tree_laws::none_enabled_is_quiet();
+        rx_tree_laws::fold_is_reached();
         if self.ready.len() == 0 {
             return match self.chronicle.root() {
                 Ok(()) => Ok(false),

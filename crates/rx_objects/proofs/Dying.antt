@@ -11,7 +11,7 @@ use Rattle.rx_rules.specs.declared.entries.Entry.{Entry}
 use Rattle.rx_rules.specs.declared.entries.Entry.TheVariants.{Step, Root, Death, Join}
 use Rattle.rx_chronicle.specs.Told.{dies_in}
 use Rattle.rx_objects.specs.Shown.{dead_bits}
-use Rattle.rx_sound.proofs.Histories.{no_dead, dead-act}
+use Rattle.rx_tree_laws.proofs.Histories.{no_dead, dead-act}
 
 -- The number of the dead.
 

@@ -11,7 +11,7 @@ use Rattle.rx_rules.specs.declared.events.PlaceEvent.{PlaceEvent}
 use Rattle.rx_rules.specs.declared.events.PlaceEvent.TheVariants.{Close}
 use Rattle.rx_syntax.specs.Shape.{Stands}
 use Rattle.rx_history.specs.Setups.{given}
-use Rattle.rx_store.specs.Kept.{Kept, last_stamp}
+use Rattle.rx_store.specs.Kept.{StoreView, last_stamp}
 use Rattle.rx_book.specs.declared.views.Stamped.{Stamped}
 use Rattle.rx_book.specs.declared.views.View.{View}
 use Rattle.rx_book.specs.declared.passes.Note.{Note}
@@ -100,7 +100,7 @@ meeting_hears code f v m w stands ends ours theirs met = (
 
 -- Places that have ended.
 
-later : (ledger : BookName LedgerFixed) (h : List (Stamped EntryItem)) (n m : ℕ) (views : List (View EventItem)) (p : ℕ) (s : Kept) (k : List (Stamped EventItem)) → n ≤ m
+later : (ledger : BookName LedgerFixed) (h : List (Stamped EntryItem)) (n m : ℕ) (views : List (View EventItem)) (p : ℕ) (s : StoreView) (k : List (Stamped EventItem)) → n ≤ m
     → PlaceEnds ledger h n views p s k → PlaceEnds ledger h m views p s k
 later ledger h n m views p s k le e =
     record {
@@ -114,14 +114,14 @@ later ledger h n m views p s k le e =
     }
 
 -- where more is heard, they have ended all the same
-pub all_later : (ledger : BookName LedgerFixed) (h : List (Stamped EntryItem)) (n m : ℕ) (views : List (View EventItem)) → n ≤ m → (p : ℕ) (ss : List Kept) (ks : List (List (Stamped EventItem)))
+pub all_later : (ledger : BookName LedgerFixed) (h : List (Stamped EntryItem)) (n m : ℕ) (views : List (View EventItem)) → n ≤ m → (p : ℕ) (ss : List StoreView) (ks : List (List (Stamped EventItem)))
     → EachEnds ledger h n views p ss ks → EachEnds ledger h m views p ss ks
 all_later ledger h n m views le p [] [] e = tt
 all_later ledger h n m views le p (s ∷ ss) (k ∷ ks) e = (later ledger h n m views p s k le e.0, all_later ledger h n m views le (suc p) ss ks e.1)
 all_later ledger h n m views le p [] (k ∷ ks) e = absurd e
 all_later ledger h n m views le p (s ∷ ss) [] e = absurd e
 
-one_more : (ledger : BookName LedgerFixed) (h : List (Stamped EntryItem)) (n : ℕ) (views : List (View EventItem)) (s : Kept) (k : List (Stamped EventItem)) (p q : ℕ) (ss : List Kept) (ks : List (List (Stamped EventItem)))
+one_more : (ledger : BookName LedgerFixed) (h : List (Stamped EntryItem)) (n : ℕ) (views : List (View EventItem)) (s : StoreView) (k : List (Stamped EventItem)) (p q : ℕ) (ss : List StoreView) (ks : List (List (Stamped EventItem)))
     → q ≡ p + length ss → EachEnds ledger h n views p ss ks → PlaceEnds ledger h n views q s k → EachEnds ledger h n views p (ss ++ s ∷ []) (ks ++ k ∷ [])
 one_more ledger h n views s k p q [] [] is e x =
     let it : q ≡ p = omega (arith, is) in (subst (λ (z : ℕ). PlaceEnds ledger h n views z s k) it x, tt)
@@ -136,12 +136,12 @@ places_end ledger h n m views ss ks e le =
 
 -- the place at this number
 record Got (ledger : BookName LedgerFixed) (h : List (Stamped EntryItem)) (n : ℕ) (views : List (View EventItem)) (p i : ℕ) (ks : List (List (Stamped EventItem))) : Type 0 where
-  pub store : Kept
+  pub store : StoreView
   pub history : List (Stamped EventItem)
   pub got : slice_get ks i ≡ Some history
   pub ends : PlaceEnds ledger h n views (p + i) store history
 
-at_place : (ledger : BookName LedgerFixed) (h : List (Stamped EntryItem)) (n : ℕ) (views : List (View EventItem)) (p i : ℕ) (ss : List Kept) (ks : List (List (Stamped EventItem)))
+at_place : (ledger : BookName LedgerFixed) (h : List (Stamped EntryItem)) (n : ℕ) (views : List (View EventItem)) (p i : ℕ) (ss : List StoreView) (ks : List (List (Stamped EventItem)))
     → i < length ks → EachEnds ledger h n views p ss ks → Got ledger h n views p i ks
 at_place ledger h n views p i [] [] lt e = absurd (omega (arith, lt))
 at_place ledger h n views p i [] (k ∷ ks) lt e = absurd e
@@ -155,7 +155,7 @@ at_place ledger h n views p (suc i) (s ∷ ss) (k ∷ ks) lt e =
     record { store = g.store; history = g.history; got = g.got; ends = subst (λ (z : ℕ). PlaceEnds ledger h n views z g.store g.history) same g.ends }
 
 -- notes that were met begin the places' histories
-notes_begin : (ledger : BookName LedgerFixed) (h : List (Stamped EntryItem)) (n : ℕ) (views : List (View EventItem)) (ss : List Kept) (ks : List (List (Stamped EventItem))) (notes : Notes)
+notes_begin : (ledger : BookName LedgerFixed) (h : List (Stamped EntryItem)) (n : ℕ) (views : List (View EventItem)) (ss : List StoreView) (ks : List (List (Stamped EventItem))) (notes : Notes)
     → EachEnds ledger h n views 0 ss ks → length views ≡ length ks → All (IsMet views) notes → NotesBegin (map made_events ks) notes
 notes_begin ledger h n views ss ks notes e all met = All-weaker (IsMet views) (HasBeginning (map made_events ks)) begins notes met
   where
@@ -175,7 +175,7 @@ module _ (code : Block) (ledger : BookName LedgerFixed) (h : List (Stamped Entry
   abbrev U : Given
   U = given ledger.fixed.setup
 
-  module _ (p : ℕ) (s : Kept) (k : List (Stamped EventItem)) (e : PlaceEnds ledger h n views p s k) where
+  module _ (p : ℕ) (s : StoreView) (k : List (Stamped EventItem)) (e : PlaceEnds ledger h n views p s k) where
     keeps : NoteKeeps ledger (record { 0 = p }) (items_of k) e.note
     keeps = e.kept.noted
 
@@ -209,13 +209,13 @@ module _ (code : Block) (ledger : BookName LedgerFixed) (h : List (Stamped Entry
     closed None j small is shut = shut ∙ events_are
     closed (Some d) j small is shut = (shut ∙ ap (λ (es : List PlaceEvent). es ++ Close d ∷ []) events_are, low d small is)
 
-  each_place : (p : ℕ) (ss : List Kept) (ks : List (List (Stamped EventItem))) → EachEnds ledger h n views p ss ks → EachPlace code U (ledger_items h) p (map made_events ks)
+  each_place : (p : ℕ) (ss : List StoreView) (ks : List (List (Stamped EventItem))) → EachEnds ledger h n views p ss ks → EachPlace code U (ledger_items h) p (map made_events ks)
   each_place p [] [] e = tt
   each_place p (s ∷ ss) (k ∷ ks) e = (e.0.lawful code stands, seen_front p s k e.0, each_place (suc p) ss ks e.1)
   each_place p [] (k ∷ ks) e = absurd e
   each_place p (s ∷ ss) [] e = absurd e
 
-  each_closed : (p : ℕ) (ss : List Kept) (ks : List (List (Stamped EventItem))) (js : List (List PlaceEvent)) → p + length ks ≤ 16 → EachEnds ledger h n views p ss ks
+  each_closed : (p : ℕ) (ss : List StoreView) (ks : List (List (Stamped EventItem))) (js : List (List PlaceEvent)) → p + length ks ≤ 16 → EachEnds ledger h n views p ss ks
       → EachShut (entries_of (ledger_items h)) U.heap p ss js → EachClosed U (entries_of (ledger_items h)) p (map made_events ks) js
   each_closed p [] [] [] few e shut = tt
   each_closed p (s ∷ ss) (k ∷ ks) (j ∷ js) few e shut = (

@@ -7,7 +7,7 @@ use Rattle.rx_rules.proofs.Common.{TaskId, Block, Term, Does, Cells, Given, Fold
 use Rattle.rx_rules.specs.declared.entries.Entry.{Entry}
 use Rattle.rx_rules.specs.declared.entries.Entry.TheVariants.{Step, Root, Death, Join}
 use Rattle.rx_rules.specs.declared.events.PlaceEvent.{PlaceEvent}
-use Rattle.rx_sound.specs.Sound.{Each}
+use Rattle.rx_tree_laws.specs.Sound.{Each}
 use Rattle.rx_finish.specs.declared.ledger.Caller.{Caller}
 use Rattle.rx_ticket.specs.declared.tickets.AnyTicket.{AnyTicket}
 use Rattle.rx_ticket.specs.declared.tickets.AnyTicket.TheVariants.{Moving, Running, Held, Host}
@@ -23,7 +23,7 @@ use Rattle.rx_ledger.specs.declared.asks.Request.{Request}
 use Rattle.rx_objects.specs.declared.mentions.Mentions.{Mentions}
 use Rattle.rx_book.specs.History.{items_of, entries_by}
 use Rattle.rx_book.specs.Passes.{view_of}
-use Rattle.rx_book.specs.Calls.{Begins}
+use Rattle.rx_book.specs.Calls.{BeginsWithSeen}
 use Rattle.rx_ledger.specs.Answering.{asker}
 use Rattle.rx_ledger.specs.Staying.{NotBy, NotOf}
 use Rattle.rx_ledger.proofs.OwnTold.{numbers_are_left}
@@ -44,7 +44,7 @@ use Rattle.rx_objects.specs.declared.ledger.LedgerFixed.{LedgerFixed}
 use Rattle.rx_objects.specs.declared.place.PlaceOp.{PlaceOp}
 use Rattle.rx_objects.specs.declared.place.PlaceFixed.{PlaceFixed}
 use Rattle.rx_objects.specs.Mentioned.{as_named, events_new, entries_in}
-use Rattle.rx_objects.specs.Asking.{Requests, Comes, AskIsMade, RequestIsMade, HostAsks}
+use Rattle.rx_objects.specs.Asking.{Requests, CallerTravels, AskIsMade, RequestIsMade, HostAsks}
 use Rattle.rx_objects.specs.Noted.{cells_at, cells_named, NoteSuits}
 use Rattle.rx_objects.specs.Ledger.{MayBeAsked}
 use Rattle.rx_objects.specs.Place.{last_carried, MayMeet, CallIsMade, PlaceIsLegal}
@@ -108,7 +108,7 @@ module _ (code : Block) (U : Given) (g more : List LedgerItem) (c : List ℕ) (s
         suited = r.suited;
       }
 
-  comes : (ev : Cells) (batch : List (List ℕ)) (o : Option Caller) → Comes short.actors c ev batch o → Comes long.actors c ev batch o
+  comes : (ev : Cells) (batch : List (List ℕ)) (o : Option Caller) → CallerTravels short.actors c ev batch o → CallerTravels long.actors c ev batch o
   comes ev batch o r =
       record {
         who = r.who;
@@ -146,7 +146,7 @@ none_named t (x ∷ more) h = λ i. at_other t x.item.entry (map event_named x.i
 pub items_append : (g more : List (Stamped EntryItem)) → items_of (g ++ more) ≡ items_of g ++ items_of more
 items_append g more = map-append (λ (x : Stamped EntryItem). x.item) g more
 
-module _ (f : LedgerFixed) (place : EntryItem → Option ℕ) (v : View EntryItem) (log : List (Stamped EntryItem)) (op : LedgerOp) (own : v.mine ≡ entries_by v.number v.seen) (begins : Begins place v log) where
+module _ (f : LedgerFixed) (place : EntryItem → Option ℕ) (v : View EntryItem) (log : List (Stamped EntryItem)) (op : LedgerOp) (own : v.mine ≡ entries_by v.number v.seen) (begins : BeginsWithSeen place v log) where
   abbrev U : Given
   U = given f.setup
 
@@ -237,7 +237,7 @@ host_may_ask code f v op legal number asks same none =
 
 -- A call of the store.
 
-module _ (f : PlaceFixed) (place : EventItem → Option ℕ) (v : View EventItem) (log : List (Stamped EventItem)) (op : PlaceOp) (own : v.mine ≡ entries_by v.number v.seen) (begins : Begins place v log) where
+module _ (f : PlaceFixed) (place : EventItem → Option ℕ) (v : View EventItem) (log : List (Stamped EventItem)) (op : PlaceOp) (own : v.mine ≡ entries_by v.number v.seen) (begins : BeginsWithSeen place v log) where
   abbrev V : Given
   V = given f.ledger.fixed.setup
 

@@ -16,7 +16,7 @@ use Rattle.rx_ledger.specs.declared.asks.Reply.{Reply}
 use Rattle.rx_ledger.specs.declared.asks.Reply.TheVariants.{Opened, Called as CalledOut, Spawned, Landed, Waits, Released, Ended, Printed, Census as Counted, RootDone, NotYet, Lost, NoMemory}
 use Rattle.rx_ledger.specs.Told.{due_entries}
 use Rattle.rx_ledger.specs.Answering.{Answers}
-use Rattle.rx_ledger.specs.Kept.{Kept, is_refusal, Applied, AppliedIf, Answered}
+use Rattle.rx_ledger.specs.Kept.{KeeperView, is_refusal, Applied, AppliedIf, Answered}
 use Rattle.rx_parts.specs.Ledger.{RootIsLast}
 use Rattle.rx_parts.specs.declared.items.EntryItem.{EntryItem}
 use Rattle.rx_objects.specs.declared.ledger.LedgerOp.{LedgerOp}
@@ -25,7 +25,7 @@ use Rattle.rx_objects.specs.declared.ledger.LedgerFixed.{LedgerFixed}
 use Rattle.rx_objects.specs.Mentioned.{entries_in}
 use Rattle.rx_objects.specs.Asking.{host_number}
 use Rattle.rx_objects.specs.Ledger.{IsHosts, HostReleases, LedgerIsLegal, LedgerDoes, HandsOut, frees, is_root_done}
-use Rattle.rx_objects.specs.Ending.{entries_at, IsHost, RootIsTold, HostIsTold}
+use Rattle.rx_objects.specs.Ending.{entries_at, HostKnows, RootIsTold, HostIsTold}
 use Rattle.rx_objects.proofs.Fitting.{items_append}
 use Rattle.rx_objects.proofs.Staying.{cancel}
 use Rattle.rx_objects.proofs.Leaving.{entries_mapped}
@@ -103,7 +103,7 @@ goes T es q (NotYet place request) es' n a = nothing es es' a.2
 goes T es q (Lost place at) es' n a = nothing es es' a.1
 goes T es q (NoMemory request) es' n a = nothing es es' a.1
 
-new_goes : (k k' : Kept) (q : Request) (r : Reply) (new : List Entry) → k'.entries ≡ k.entries ++ new → is_root_done r ≡ false → (b : Bool) → AppliedIf b k q r k' → NoRoot new
+new_goes : (k k' : KeeperView) (q : Request) (r : Reply) (new : List Entry) → k'.entries ≡ k.entries ++ new → is_root_done r ≡ false → (b : Bool) → AppliedIf b k q r k' → NoRoot new
 new_goes k k' q r new is n true a = subst NoRoot (cancel k.entries [] new (append-nil k.entries ∙ (sym a.entries ∙ is))) tt
 new_goes k k' q r new is n false a =
     let g = goes _ (k.entries ++ due_entries a.due) q r k'.entries n a.answers in
@@ -117,7 +117,7 @@ items_stamped c (x ∷ xs) = ap (λ (l : List EntryItem). x ∷ l) (items_stampe
 entries_both : (xs ys : List EntryItem) → entries_in (xs ++ ys) ≡ entries_in xs ++ entries_in ys
 entries_both xs ys = map-append (λ (x : EntryItem). x.entry) xs ys
 
-module _ (f : LedgerFixed) (place : EntryItem → Option ℕ) (v w : View EntryItem) (op : LedgerOp) (r : LedgerReply) (host : IsHost v) (c : Called place (LedgerDoes f) (LedgerIsLegal f) v op r w) where
+module _ (f : LedgerFixed) (place : EntryItem → Option ℕ) (v w : View EntryItem) (op : LedgerOp) (r : LedgerReply) (host : HostKnows v) (c : Called place (LedgerDoes f) (LedgerIsLegal f) v op r w) where
   abbrev before : List (Stamped EntryItem)
   before = v.seen ++ c.between
 
@@ -136,10 +136,10 @@ module _ (f : LedgerFixed) (place : EntryItem → Option ℕ) (v w : View EntryI
   seen_lines : entries_at w.seen ≡ lines ++ does.new
   seen_lines = ap entries_in (sym whole) ∙ (entries_both (items_of before) c.added ∙ ap (λ (l : List Entry). lines ++ l) new_lines)
 
-  abbrev old : Kept
+  abbrev old : KeeperView
   old = record { setup = f.setup; entries = lines; behind = does.behind }
 
-  abbrev new : Kept
+  abbrev new : KeeperView
   new = record { setup = f.setup; entries = lines ++ does.new; behind = does.behind' }
 
   ends_there : r.reply ≡ RootDone → Answered old op.request RootDone new → EndsWithRoot (lines ++ does.new)
@@ -171,7 +171,7 @@ module _ (f : LedgerFixed) (place : EntryItem → Option ℕ) (v w : View EntryI
   told is =
       let h = handed c.added refl is does.notes in record { ends = ends is; noted = h.0; places_are = h.1 }
 
-  goes_on : is_root_done r.reply ≡ false → IsHost w
+  goes_on : is_root_done r.reply ≡ false → HostKnows w
   goes_on other =
       record {
         number = c.same.0 ∙ host.number;

@@ -11,7 +11,7 @@ use Rattle.rx_check.specs.Checked.{Checked}
 use Rattle.atomic_table.specs.Seated.{TableId}
 use Rattle.rx_ledger.specs.declared.asks.Reply.{Reply}
 use Rattle.rx_ledger.specs.declared.asks.Reply.TheVariants.{NoMemory}
-use Rattle.rx_ledger.specs.Kept.{Kept, is_refusal, Applied}
+use Rattle.rx_ledger.specs.Kept.{KeeperView, is_refusal, Applied}
 use Rattle.rx_parts.specs.Ledger.{RootIsLast}
 use Rattle.rx_parts.specs.declared.items.EntryItem.{EntryItem}
 use Rattle.rx_parts.specs.Histories.{event_named}
@@ -37,7 +37,7 @@ entries_length : (xs : List EntryItem) → length (entries_in xs) ≡ length xs
 entries_length [] = refl
 entries_length (x ∷ xs) = ap suc (entries_length xs)
 
-module _ (program : Checked) (places : List TableId) (board : Option TableId) (k : Kept) (notes : Notes) (items : List EntryItem) (op : LedgerOp) (r : Reply) (b : Bool) (k' : Kept)
+module _ (program : Checked) (places : List TableId) (board : Option TableId) (k : KeeperView) (notes : Notes) (items : List EntryItem) (op : LedgerOp) (r : Reply) (b : Bool) (k' : KeeperView)
     (s : Stepped k op.request r b k') (kept : LedgerKeeps places k.entries notes items) (suits : NoteSuits places items op.request.ticket (map event_named (events_new op.mentions)) op.note) where
   abbrev noted : Notes
   noted = with_note notes (asked_place op.request.ticket) op.note
@@ -105,7 +105,7 @@ module _ (program : Checked) (places : List TableId) (board : Option TableId) (k
       whole = s.entries ∙ ap (λ (es : List Entry). es ++ s.new) (sym kept.same)
 
 -- where there is no room for the note
-pub refused : (program : Checked) (places : List TableId) (board : Option TableId) (k : Kept) (notes : Notes) (items : List EntryItem) (op : LedgerOp) (reply : LedgerReply) → LedgerKeeps places k.entries notes items
+pub refused : (program : Checked) (places : List TableId) (board : Option TableId) (k : KeeperView) (notes : Notes) (items : List EntryItem) (op : LedgerOp) (reply : LedgerReply) → LedgerKeeps places k.entries notes items
     → reply.reply ≡ NoMemory op.request → reply.notes.items ≡ [] → LedgerDoes (record { program = program; setup = k.setup; places = places; board = board }) items op reply []
 refused program places board k notes items op reply kept is none =
     record {

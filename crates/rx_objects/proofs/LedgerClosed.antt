@@ -14,7 +14,7 @@ use Rattle.rx_book.specs.History.{items_of}
 use Rattle.rx_book.specs.Passes.{view_of}
 use Rattle.rx_book.specs.Named.{BookName}
 use Rattle.rx_chronicle.specs.Told.{left_to_join, RootLast}
-use Rattle.rx_ledger.specs.Kept.{Kept, IsHistory}
+use Rattle.rx_ledger.specs.Kept.{KeeperView, IsHistory}
 use Rattle.rx_monitor.specs.Boards.{Listing}
 use Rattle.rx_parts.specs.Ledger.{LegalLedger}
 use Rattle.rx_parts.specs.declared.items.EntryItem.{EntryItem}
@@ -60,7 +60,7 @@ root_stands (Death d ∷ es) more ends none = root_stands es more ends none
 root_stands (Join d ∷ es) more ends none = root_stands es more ends none
 
 -- behind the root's release nothing was made
-whole_history : (k : Kept) (es : List Entry) → IsHistory k → k.entries ≡ es → EndsWithRoot es → k.entries ++ k.behind ≡ es
+whole_history : (k : KeeperView) (es : List Entry) → IsHistory k → k.entries ≡ es → EndsWithRoot es → k.entries ++ k.behind ≡ es
 whole_history k es history is ends = go history.root_last
   where
     there : EndsWithRoot k.entries
@@ -86,7 +86,7 @@ shown_there board s t es fs late none same is h =
     subst (λ (gs : List Entry). BoardShows t.places gs false board) (sym is)
     (subst (λ (q : Setup). BoardShows q.places es false board) same (subst (λ (b : Bool). BoardShows s.places es b board) none h))
 
-module _ (code : Block) (L : BookName LedgerFixed) (host : Pass EntryItem) (h : List (Stamped EntryItem)) (items : List EntryItem) (k : Kept) (stands : Stands L.fixed.program.script code) (sees : SeesEnd L host)
+module _ (code : Block) (L : BookName LedgerFixed) (host : Pass EntryItem) (h : List (Stamped EntryItem)) (items : List EntryItem) (k : KeeperView) (stands : Stands L.fixed.program.script code) (sees : SeesEnd L host)
     (lawful : LedgerIsLegal L.fixed h) (begins : IsPrefix (view_of host).seen h) (whole : items ≡ items_of h) (told : entries_in items ≡ k.entries) where
   -- the keeper's entries were all seen
   pub all_seen : k.entries ≡ entries_at (view_of host).seen

@@ -19,7 +19,7 @@ use Rattle.rx_ledger.specs.declared.asks.Reply.{Reply}
 use Rattle.rx_ledger.specs.declared.asks.Reply.TheVariants.{Opened, Called, Spawned, Landed, Waits, Released, Ended, Printed, Census as Counted, RootDone, NotYet, Lost, NoMemory}
 use Rattle.rx_ledger.specs.Told.{due_entries}
 use Rattle.rx_ledger.specs.Answering.{Answers, asker}
-use Rattle.rx_ledger.specs.Kept.{Kept, is_refusal, Applied, AppliedIf}
+use Rattle.rx_ledger.specs.Kept.{KeeperView, is_refusal, Applied, AppliedIf}
 use Rattle.rx_parts.specs.declared.items.EntryItem.{EntryItem}
 use Rattle.rx_parts.specs.declared.items.EventItem.{EventItem}
 use Rattle.rx_parts.specs.Histories.{event_named, cells_in}
@@ -137,7 +137,7 @@ module _ (places : List TableId) (notes : Notes) (before : List EntryItem) (tick
       tells false e = inr e
 
 -- what is kept after a call: the note of the operation among the notes
-pub noted_after : (places : List TableId) (notes : Notes) (before : List EntryItem) (m : Mentions) (o : Option (Note EventItem)) (k : Kept) (q : Request) (r : Reply) (k' : Kept) (new : List Entry)
+pub noted_after : (places : List TableId) (notes : Notes) (before : List EntryItem) (m : Mentions) (o : Option (Note EventItem)) (k : KeeperView) (q : Request) (r : Reply) (k' : KeeperView) (new : List Entry)
     → Applied k q r k' → k'.entries ≡ k.entries ++ new → NoteSuits places before q.ticket (map event_named (events_new m)) o → AllNoted notes before
     → AllNoted (with_note notes (asked_place q.ticket) o) (before ++ map (item_for m) new)
 noted_after places notes before m o k q r k' new applied grew suits was = by (is_refusal r) applied

@@ -7,10 +7,10 @@ use Rattle.rx_rules.proofs.Common.{PlaceId, Value, Fault, has_bit, Block, Does, 
 use Rattle.rx_rules.specs.declared.events.PlaceEvent.{PlaceEvent}
 use Rattle.rx_syntax.specs.Shape.{Stands}
 use Rattle.rx_history.specs.Setups.{given}
-use Rattle.rx_store.specs.Kept.{Kept, last_stamp, stamp_from, ends_closed}
+use Rattle.rx_store.specs.Kept.{StoreView, last_stamp, stamp_from, ends_closed}
 use Rattle.rx_store.specs.Answers.{event_told}
 use Rattle.rx_store.proofs.Running.{closed_done, stamp_done}
-use Rattle.rx_store.specs.Asked.{Receives, Asked, CallIsTold}
+use Rattle.rx_store.specs.Asked.{Receives, CallMade, CallIsTold}
 use Rattle.rx_book.specs.declared.views.Stamped.{Stamped}
 use Rattle.rx_book.specs.declared.views.View.{View}
 use Rattle.rx_book.specs.declared.passes.Note.{Note}
@@ -172,10 +172,10 @@ module _ (f : PlaceFixed) (log : List (Stamped EventItem)) (caller : List ℕ) (
         alive = met_dead (λ d. has_bit d f.place.0 ≡ false) (view_of op.pass) (note_view n) (view_of w) met fits.alive keeps.alive;
       }
 
-  module _ (s0 s1 s2 : Kept) (n' : Note EntryItem) (answer : Result (Option Value) Fault) (event : PlaceEvent) (kept : PlaceKeeps f.place s0 f.ledger (Some n) items) (same : s1 ≡ record s0 { spare = s1.spare }) (room : length s1.events < 2147483648)
-      (did : Asked s1 s2 op.mark op.op answer) (is : (es : List PlaceEvent) (e : PlaceEvent) → s2.events ≡ es ++ e ∷ [] → event ≡ e) (own : note_word n' ≡ f.ledger.word) (seen : IsAsSeen (view_of w) (note_view n')) where
+  module _ (s0 s1 s2 : StoreView) (n' : Note EntryItem) (answer : Result (Option Value) Fault) (event : PlaceEvent) (kept : PlaceKeeps f.place s0 f.ledger (Some n) items) (same : s1 ≡ record s0 { spare = s1.spare }) (room : length s1.events < 2147483648)
+      (did : CallMade s1 s2 op.mark op.op answer) (is : (es : List PlaceEvent) (e : PlaceEvent) → s2.events ≡ es ++ e ∷ [] → event ≡ e) (own : note_word n' ≡ f.ledger.word) (seen : IsAsSeen (view_of w) (note_view n')) where
     before : s1.events ≡ events_in items
-    before = ap (λ (s : Kept). s.events) same ∙ sym kept.same
+    before = ap (λ (s : StoreView). s.events) same ∙ sym kept.same
 
     abbrev stamp_now : ℕ
     stamp_now = max op.mark.stamp (last_stamp (events_in items))
@@ -207,7 +207,7 @@ module _ (f : PlaceFixed) (log : List (Stamped EventItem)) (caller : List ℕ) (
           same = events_push items item ∙ sym now;
           is_open = ap ends_closed now ∙ closed_done false (events_in items) op.mark.task stamp_now did.cell op.mark.path;
           short = (let e = ap length did.events ∙ length-append s1.events (event_told s1.events op.mark did.cell ∷ []) in omega (arith, e, room));
-          home = did.place ∙ (ap (λ (s : Kept). s.place) same ∙ kept.home);
+          home = did.place ∙ (ap (λ (s : StoreView). s.place) same ∙ kept.home);
           noted = record {
             word = own;
             lawful = subst (LedgerIsLegal f.ledger.fixed) (sym seen.seen) came_back.lawful;
@@ -223,7 +223,7 @@ module _ (f : PlaceFixed) (log : List (Stamped EventItem)) (caller : List ℕ) (
     answers =
         record {
           cell = did.cell;
-          told = subst (λ (p : PlaceId). CallIsTold p op.op answer did.cell) (ap (λ (s : Kept). s.place) same ∙ kept.home) did.told;
+          told = subst (λ (p : PlaceId). CallIsTold p op.op answer did.cell) (ap (λ (s : StoreView). s.place) same ∙ kept.home) did.told;
           one = refl;
           last = prefix-trans (last_carried items) (note_view n).seen (view_of w).seen keeps.last met.theirs;
           came = came_back;

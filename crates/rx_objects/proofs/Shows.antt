@@ -8,14 +8,14 @@ use Rattle.rx_base.proofs.Bools.{same-or-false}
 use Rattle.rx_base.proofs.Elements.{last-is}
 use Rattle.rx_rules.specs.declared.entries.Entry.{Entry}
 use Rattle.rx_rules.specs.declared.entries.Entry.TheVariants.{Step, Root, Death, Join}
-use Rattle.rx_sound.proofs.Changes.{each_more}
+use Rattle.rx_tree_laws.proofs.Changes.{each_more}
 use Rattle.rx_history.specs.declared.setup.Setup.{Setup}
 use Rattle.rx_finish.specs.declared.totals.Totals.{Totals}
 use Rattle.rx_finish.specs.Totals.{totals_of}
 use Rattle.rx_counts.proofs.Hindering.{filter_same, places_low}
 use Rattle.rx_ledger.specs.declared.asks.Request.{Request}
 use Rattle.rx_ledger.specs.declared.asks.Reply.{Reply}
-use Rattle.rx_ledger.specs.Kept.{Kept, is_refusal, Applied, AppliedIf}
+use Rattle.rx_ledger.specs.Kept.{KeeperView, is_refusal, Applied, AppliedIf}
 use Rattle.rx_chronicle.specs.Told.{dies_in, HasDead}
 use Rattle.rx_chronicle.proofs.Granting.{map_snoc}
 use Rattle.rx_monitor.specs.declared.summary.Summary.{Summary}
@@ -33,7 +33,7 @@ same_set law a b la lb same =
 abbrev pub told : ℕ → Totals → PlaceSet → Summary
 told n t d = record { len = n; scopes = t.scopes; live = t.live; travel = t.travel; dead = d }
 
-pub summary_is : MembersMakeTheSet → (k : Kept) (n : ℕ) (t : Totals) (d : PlaceSet) → n ≡ length k.entries → t ≡ totals_of (tree_of k.setup.places (k.entries ++ k.behind)) → k.behind ≡ [] → HasDead d k.entries → d.0 < 65536
+pub summary_is : MembersMakeTheSet → (k : KeeperView) (n : ℕ) (t : Totals) (d : PlaceSet) → n ≡ length k.entries → t ≡ totals_of (tree_of k.setup.places (k.entries ++ k.behind)) → k.behind ≡ [] → HasDead d k.entries → d.0 < 65536
     → told n t d ≡ whole_of k
 summary_is law k n t d len all none dead few =
     let es = k.entries in
@@ -97,7 +97,7 @@ dies_later p (suc n) (Death d ∷ es) e = go (d.0 == p) (dies_in p (take n es)) 
     go true b h k = refl
     go false b h k = k h
 
-may_show : (k : Kept) (last : ℕ) (shown : List Summary) → ShowsUpTo k.setup.places k.entries last shown → (x : Summary) → EndsWith shown x → MayFollow x (whole_of k)
+may_show : (k : KeeperView) (last : ℕ) (shown : List Summary) → ShowsUpTo k.setup.places k.entries last shown → (x : Summary) → EndsWith shown x → MayFollow x (whole_of k)
 may_show k last shown s x ends =
     let es = k.entries in
     let places = k.setup.places in
@@ -110,17 +110,17 @@ may_show k last shown s x ends =
 
 -- A call.
 
-pub same_shows : (k : Kept) (before : ℕ) (late : Bool) (board : Option Listing) → before ≡ length k.entries → BoardShows k.setup.places (take before k.entries) late board
+pub same_shows : (k : KeeperView) (before : ℕ) (late : Bool) (board : Option Listing) → before ≡ length k.entries → BoardShows k.setup.places (take before k.entries) late board
     → BoardShows k.setup.places k.entries (late || not true) board
 same_shows k before late board is h =
     subst (λ (b : Bool). BoardShows k.setup.places k.entries b board) (same-or-false late)
     (subst (λ (es : List Entry). BoardShows k.setup.places es late board) (ap (λ (n : ℕ). take n k.entries) is ∙ take-length k.entries) h)
 
-pub may_follow : (k : Kept) (before : ℕ) (late : Bool) (l : Listing) → before ≤ length k.entries → BoardShows k.setup.places (take before k.entries) late (Some l)
+pub may_follow : (k : KeeperView) (before : ℕ) (late : Bool) (l : Listing) → before ≤ length k.entries → BoardShows k.setup.places (take before k.entries) late (Some l)
     → (x : Summary) → EndsWith l.list x → MayFollow x (whole_of k)
 may_follow k before late l le h = may_show k h.0 l.list (stays k.setup.places k.entries before h.0 l.list le h.1)
 
-pub shows_more : (k : Kept) (before : ℕ) (late : Bool) (old new : Listing) (b : Bool) → before ≤ length k.entries → BoardShows k.setup.places (take before k.entries) late (Some old)
+pub shows_more : (k : KeeperView) (before : ℕ) (late : Bool) (old new : Listing) (b : Bool) → before ≤ length k.entries → BoardShows k.setup.places (take before k.entries) late (Some old)
     → MatchBool b (new.list ≡ old.list ++ whole_of k ∷ []) (new.list ≡ old.list) → BoardShows k.setup.places k.entries (late || not b) (Some new)
 shows_more k before late old new true le h is =
     (length k.entries, one_more k.setup.places k.entries h.0 old.list new.list (stays k.setup.places k.entries before h.0 old.list le h.1) is, λ e. refl)
@@ -128,7 +128,7 @@ shows_more k before late old new false le h is =
     (h.0, subst (ShowsUpTo k.setup.places k.entries h.0) (sym is) (stays k.setup.places k.entries before h.0 old.list le h.1), λ e. absurd (let t : true ≡ false = sym (or-true late) ∙ e in let f : ⊥ = cc t in f))
 
 -- what was shown of the entries before a step is shown of those first entries after it
-pub begins : (k k' : Kept) (new : List Entry) (before : ℕ) (late : Bool) (board : Option Listing) → before ≡ length k.entries → k'.entries ≡ k.entries ++ new → k'.setup ≡ k.setup
+pub begins : (k k' : KeeperView) (new : List Entry) (before : ℕ) (late : Bool) (board : Option Listing) → before ≡ length k.entries → k'.entries ≡ k.entries ++ new → k'.setup ≡ k.setup
     → BoardShows k.setup.places k.entries late board → (before ≤ length k'.entries) × BoardShows k'.setup.places (take before k'.entries) late board
 begins k k' new before late board is entries setup h = (
   let l = ap length entries ∙ length-append k.entries new in omega (arith, l, is),
@@ -138,7 +138,7 @@ begins k k' new before late board is entries setup h = (
 )
 
 -- a call that appends entries leaves none that was made and is not seen
-pub whole_after : (k k' : Kept) (q : Request) (r : Reply) → Applied k q r k' → length k.entries < length k'.entries → k'.behind ≡ []
+pub whole_after : (k k' : KeeperView) (q : Request) (r : Reply) → Applied k q r k' → length k.entries < length k'.entries → k'.behind ≡ []
 whole_after k k' q r applied more = go (is_refusal r) applied
   where
     go : (b : Bool) → AppliedIf b k q r k' → k'.behind ≡ []

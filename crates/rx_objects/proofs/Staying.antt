@@ -22,7 +22,7 @@ use Rattle.rx_ledger.specs.declared.asks.Reply.{Reply}
 use Rattle.rx_ledger.specs.declared.asks.Reply.TheVariants.{Opened, Called, Spawned, Landed, Waits as Waited, Released, Ended, Printed, Census as Counted, RootDone, NotYet, Lost, NoMemory}
 use Rattle.rx_ledger.specs.Told.{due_entries}
 use Rattle.rx_ledger.specs.Answering.{Answers}
-use Rattle.rx_ledger.specs.Kept.{Kept, is_refusal, AppliedIf}
+use Rattle.rx_ledger.specs.Kept.{KeeperView, is_refusal, AppliedIf}
 use Rattle.rx_parts.specs.Ledger.{LedgerItem, Actor, RootIsLast, LegalLedger, entries_of}
 use Rattle.rx_parts.specs.Growing.{MayRequest}
 use Rattle.rx_parts.specs.Calling.{AllHostItems, Grants}
@@ -34,7 +34,7 @@ use Rattle.rx_objects.specs.declared.ledger.LedgerOp.{LedgerOp}
 use Rattle.rx_objects.specs.declared.ledger.LedgerReply.{LedgerReply}
 use Rattle.rx_objects.specs.declared.ledger.LedgerFixed.{LedgerFixed}
 use Rattle.rx_objects.specs.Mentioned.{events_new, item_for, entries_in}
-use Rattle.rx_objects.specs.Asking.{Requests, Comes, RequestIsMade, HostAsks}
+use Rattle.rx_objects.specs.Asking.{Requests, CallerTravels, RequestIsMade, HostAsks}
 use Rattle.rx_objects.specs.Ledger.{IsHosts, HostReleases, LedgerIsLegal, LedgerFits, LedgerDoes}
 
 -- Items.
@@ -133,7 +133,7 @@ module _ (code : Block) (U : Given) (h : List LedgerItem) (legal : LegalLedger c
       one q a.who act es es' _ a.entry.added (asked_of _ _ _ _ _ a.who _ (subst IsMade a.asked f))
       (λ here t d place s. inl (subst (λ (e : Does). Fits here t e act) (sym s.0) (refl, ap place_number place, s.1)))
   answer_stays T es q (Landed ticket) es' f a =
-      let k : Comes legal.actors c events q.batch (Some a.who) = subst IsMade a.asked f in
+      let k : CallerTravels legal.actors c events q.batch (Some a.who) = subst IsMade a.asked f in
       let who : a.who ≡ k.who = same_Some a.who k.who k.asks in (
         Step a.who.task (Arrive (landing a.who.place)) q.batch ∷ [],
         a.entry.added,
@@ -244,7 +244,7 @@ ends c T es q (NotYet place request) es' h a = no_end c es es' a.2
 ends c T es q (Lost place at) es' h a = no_end c es es' a.1
 ends c T es q (NoMemory request) es' h a = no_end c es es' a.1
 
-new_releases : (c : List ℕ) (k k' : Kept) (q : Request) (r : Reply) (new : List Entry) → k'.entries ≡ k.entries ++ new → HostAsks c q.ask → (b : Bool) → AppliedIf b k q r k' → Releases c new
+new_releases : (c : List ℕ) (k k' : KeeperView) (q : Request) (r : Reply) (new : List Entry) → k'.entries ≡ k.entries ++ new → HostAsks c q.ask → (b : Bool) → AppliedIf b k q r k' → Releases c new
 new_releases c k k' q r new is h true a =
     subst (Releases c) (cancel k.entries [] new (append-nil k.entries ∙ (sym a.entries ∙ is))) tt
 new_releases c k k' q r new is h false a =

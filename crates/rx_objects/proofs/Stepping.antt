@@ -15,7 +15,7 @@ use Rattle.rx_ledger.specs.declared.asks.Reply.TheVariants.{Opened, Called, Spaw
 use Rattle.rx_ledger.specs.Told.{due_entries}
 use Rattle.rx_ledger.specs.Answering.{Answers}
 use Rattle.rx_chronicle.specs.Told.{Ending}
-use Rattle.rx_ledger.specs.Kept.{Kept, is_refusal, Applied, AppliedIf, Answered, IsHistory}
+use Rattle.rx_ledger.specs.Kept.{KeeperView, is_refusal, Applied, AppliedIf, Answered, IsHistory}
 use Rattle.rx_runs.proofs.RootLast.{root_last-ends}
 use Rattle.rx_parts.specs.Ledger.{RootIsLast}
 use Rattle.rx_objects.specs.Ledger.{is_root_done, has_some, frees}
@@ -68,7 +68,7 @@ pub some_longer : {X : Type 0} (xs new : List X) → nat_lt (length xs) (length 
 some_longer xs [] = ap (λ (l : List _). nat_lt (length xs) (length l)) (append-nil xs) ∙ same_length (length xs)
 some_longer xs (x ∷ new) = longer (length xs) (length (xs ++ x ∷ new)) (let l = length-append xs (x ∷ new) in omega (arith, l))
 
-pub grew : (k : Kept) (q : Request) (r : Reply) (k' : Kept) → Applied k q r k' → Grew k.entries k'.entries
+pub grew : (k : KeeperView) (q : Request) (r : Reply) (k' : KeeperView) → Applied k q r k' → Grew k.entries k'.entries
 grew k q r k' applied = by (is_refusal r) applied
   where
     by : (b : Bool) → AppliedIf b k q r k' → Grew k.entries k'.entries
@@ -77,7 +77,7 @@ grew k q r k' applied = by (is_refusal r) applied
         let g = grows _ (k.entries ++ due_entries a.due) q r k'.entries a.answers in
         (due_entries a.due ++ g.0, g.1 ∙ append_assoc k.entries (due_entries a.due) g.0)
 
-pub stepped : (k : Kept) (q : Request) (r : Reply) (b : Bool) (k' : Kept) → Applied k q r k' → IsHistory k' → b ≡ (is_root_done r && nat_lt (length k.entries) (length k'.entries)) → Stepped k q r b k'
+pub stepped : (k : KeeperView) (q : Request) (r : Reply) (b : Bool) (k' : KeeperView) → Applied k q r k' → IsHistory k' → b ≡ (is_root_done r && nat_lt (length k.entries) (length k'.entries)) → Stepped k q r b k'
 stepped k q r b k' applied is told = by (is_refusal r) refl applied
   where
     g : Grew k.entries k'.entries
@@ -110,7 +110,7 @@ stepped k q r b k' applied is told = by (is_refusal r) refl applied
         }
 
 -- where the keeper is not asked
-pub unasked : (k : Kept) (q : Request) → Stepped k q (NoMemory q) false k
+pub unasked : (k : KeeperView) (q : Request) → Stepped k q (NoMemory q) false k
 unasked k q =
     record {
       setup = refl;
@@ -198,7 +198,7 @@ freed_some : (es es' new : List Entry) → es' ≡ es ++ new → has_some new �
 freed_some es es' [] h s last = absurd (let f : ⊥ = cc s in f)
 freed_some es es' (x ∷ new) h s last = none_before es x new (subst RootIsLast h last)
 
-pub freed : (k : Kept) (q : Request) (r : Reply) (b : Bool) (k' : Kept) → (s : Stepped k q r b k') → b ≡ true → Freed k.entries k'.entries
+pub freed : (k : KeeperView) (q : Request) (r : Reply) (b : Bool) (k' : KeeperView) → (s : Stepped k q r b k') → b ≡ true → Freed k.entries k'.entries
 freed k q r b k' s told = at r (is_root_done-is r parts.0) s.applied (s.last (ap is_refusal (is_root_done-is r parts.0)))
   where
     parts : (is_root_done r ≡ true) × (has_some s.new ≡ true)

@@ -25,7 +25,7 @@ pub record Requests (actors : List Actor) (n : ℕ) (by : List ℕ) (events : Ce
   pub suited : suits may.stand.term does
 
 -- The caller's task is on its way. The caller's number holds it; it has made no event and begun no statement.
-pub record Comes (actors : List Actor) (by : List ℕ) (events : Cells) (batch : List (List ℕ)) (o : Option Caller) : Type 0 where
+pub record CallerTravels (actors : List Actor) (by : List ℕ) (events : Cells) (batch : List (List ℕ)) (o : Option Caller) : Type 0 where
   pub who : Caller
   pub asks : o ≡ Some who
   pub actor : Actor
@@ -50,7 +50,7 @@ Suits AskRoot path t d = ⊥
 
 -- what is asked: an arrival of a task on its way, the root's release, and all else of a task at its place
 abbrev pub AskIsMade : List Actor → ℕ → List ℕ → Cells → List (List ℕ) → Option Caller → Option (List ℕ) → Ask → Type 0
-AskIsMade actors n by events batch o path AskArrive = Comes actors by events batch o
+AskIsMade actors n by events batch o path AskArrive = CallerTravels actors by events batch o
 AskIsMade actors n by events batch o path AskRoot = Unit {0}
 AskIsMade actors n by events batch o path ask = Requests actors n by events batch o (Suits ask path)
 

@@ -10,7 +10,7 @@ use Rattle.rx_rules.specs.Store.{IsStoreRun, opening_state}
 use Rattle.rx_rules.specs.Run.{Proper, NoRoot, EndsWithRoot, IsRun, in_all, death_number}
 use Rattle.rx_syntax.specs.Shape.{Stands}
 use Rattle.rx_history.specs.Setups.{given}
-use Rattle.rx_store.specs.Kept.{Kept, last_stamp}
+use Rattle.rx_store.specs.Kept.{StoreView, last_stamp}
 use Rattle.rx_book.specs.declared.views.Stamped.{Stamped}
 use Rattle.rx_book.specs.declared.views.View.{View}
 use Rattle.rx_book.specs.declared.passes.Pass.{Pass}
@@ -38,7 +38,7 @@ entries_at h = entries_in (items_of h)
 -- The root's release.
 
 -- what the host knows by its pass: the pass has the host's number, and among its own entries is no release of the root
-pub record IsHost (v : View EntryItem) : Type 0 where
+pub record HostKnows (v : View EntryItem) : Type 0 where
   pub number : v.number ≡ host_number
   pub own : v.mine ≡ entries_by v.number v.seen
   pub unreleased : NoRoot (entries_at v.mine)
@@ -51,9 +51,9 @@ pub record RootIsTold (f : LedgerFixed) (notes : Notes) (seen : List (Stamped En
 
 -- So it is where the host is told that the root is released. Another answer leaves the host as it was.
 abbrev pub HostIsTold : Type 0
-HostIsTold = (f : LedgerFixed) (place : EntryItem → Option ℕ) (v w : View EntryItem) (op : LedgerOp) (r : LedgerReply) → IsHost v
+HostIsTold = (f : LedgerFixed) (place : EntryItem → Option ℕ) (v w : View EntryItem) (op : LedgerOp) (r : LedgerReply) → HostKnows v
     → Called place (LedgerDoes f) (LedgerIsLegal f) v op r w
-    → (r.reply ≡ RootDone → RootIsTold f r.notes.items w.seen) × (is_root_done r.reply ≡ false → IsHost w)
+    → (r.reply ≡ RootDone → RootIsTold f r.notes.items w.seen) × (is_root_done r.reply ≡ false → HostKnows w)
 
 -- the host's pass is of the run's ledger and has seen its whole history, which ends with the root's release
 pub record SeesEnd (L : BookName LedgerFixed) (pass : Pass EntryItem) : Type 0 where
@@ -93,7 +93,7 @@ MeetingHears = (code : Block) (f : LedgerFixed) (v m w : View EntryItem) → Sta
 -- place p at its end: the history of its closed book, which begins with what the host's pass had seen; and its store and the note
 -- that it kept, which the host's pass of the ledger's book has met
 pub record PlaceEnds (ledger : BookName LedgerFixed) (h : List (Stamped EntryItem)) (n : ℕ) (views : List (View EventItem)) (p : ℕ)
-    (s : Kept) (k : List (Stamped EventItem)) : Type 0 where
+    (s : StoreView) (k : List (Stamped EventItem)) : Type 0 where
   pub lawful : PlaceIsLegal (record { place = record { 0 = p }; words = ledger.fixed.setup.heap; ledger = ledger }) k
   pub view : View EventItem
   pub pass : slice_get views p ≡ Some view
@@ -103,7 +103,7 @@ pub record PlaceEnds (ledger : BookName LedgerFixed) (h : List (Stamped EntryIte
   pub heard : IsHeard h n (note_view note)
 
 -- the same of places p, p + 1, ..
-abbrev pub EachEnds : BookName LedgerFixed → List (Stamped EntryItem) → ℕ → List (View EventItem) → ℕ → List Kept
+abbrev pub EachEnds : BookName LedgerFixed → List (Stamped EntryItem) → ℕ → List (View EventItem) → ℕ → List StoreView
     → List (List (Stamped EventItem)) → Type 0
 EachEnds ledger h n views p [] [] = Unit {0}
 EachEnds ledger h n views p (s ∷ ss) (k ∷ ks) = PlaceEnds ledger h n views p s k × EachEnds ledger h n views (suc p) ss ks
@@ -112,16 +112,16 @@ EachEnds ledger h n views p (s ∷ ss) [] = ⊥
 
 -- places that have ended stay so where the host's pass knows of more entries, and one more may end
 abbrev pub PlacesEnd : Type 0
-PlacesEnd = (ledger : BookName LedgerFixed) (h : List (Stamped EntryItem)) (n m : ℕ) (views : List (View EventItem)) (ss : List Kept)
+PlacesEnd = (ledger : BookName LedgerFixed) (h : List (Stamped EntryItem)) (n m : ℕ) (views : List (View EventItem)) (ss : List StoreView)
     (ks : List (List (Stamped EventItem))) → EachEnds ledger h n views 0 ss ks → n ≤ m
     → EachEnds ledger h m views 0 ss ks
-    × ((s : Kept) (k : List (Stamped EventItem)) → PlaceEnds ledger h m views (length ss) s k
+    × ((s : StoreView) (k : List (Stamped EventItem)) → PlaceEnds ledger h m views (length ss) s k
     → EachEnds ledger h m views 0 (ss ++ s ∷ []) (ks ++ k ∷ []))
 
 -- no stamp of a place that has ended is above the number of its death, where its pass knows of no more entries than there are
 abbrev pub StampsBeforeDeath : Type 0
 StampsBeforeDeath = (code : Block) (ledger : BookName LedgerFixed) (h : List (Stamped EntryItem)) (n : ℕ)
-    (views : List (View EventItem)) (p : PlaceId) (s : Kept) (k : List (Stamped EventItem)) (d : ℕ)
+    (views : List (View EventItem)) (p : PlaceId) (s : StoreView) (k : List (Stamped EventItem)) (d : ℕ)
     → Stands ledger.fixed.program.script code → p.0 < 16 → n ≤ length h → PlaceEnds ledger h n views p.0 s k
     → death_number 0 p (entries_at h) ≡ Some d → last_stamp s.events ≤ d
 
@@ -133,7 +133,7 @@ IsShut None events j = j ≡ events
 IsShut (Some d) events j = j ≡ events ++ Close d ∷ []
 
 -- so are the journals of places p, p + 1, ..; and each is a run of a store with so many words
-abbrev pub EachShut : List Entry → ℕ → ℕ → List Kept → List (List PlaceEvent) → Type 0
+abbrev pub EachShut : List Entry → ℕ → ℕ → List StoreView → List (List PlaceEvent) → Type 0
 EachShut es heap p [] [] = Unit {0}
 EachShut es heap p (s ∷ ss) (j ∷ js) =
     IsShut (death_number 0 (record { 0 = p }) es) s.events j × IsStoreRun heap opening_state j × EachShut es heap (suc p) ss js
@@ -152,7 +152,7 @@ pub record IsEnded (ledger : BookName LedgerFixed) (h : List (Stamped EntryItem)
   pub met : All (IsMet views) notes
   pub reach : ℕ
   pub long : reach ≤ length h
-  pub stores : List Kept
+  pub stores : List StoreView
   pub histories : List (List (Stamped EventItem))
   pub places_end : EachEnds ledger h reach views 0 stores histories
   pub one_each : length histories ≡ in_all (given ledger.fixed.setup)

@@ -6,7 +6,7 @@ use Rattle.rx_base.specs.Sets.{has_bit}
 use Rattle.rx_rules.specs.Code.{Block}
 use Rattle.rx_rules.specs.Terms.{Does}
 use Rattle.rx_rules.specs.Run.{Given}
-use Rattle.rx_sound.specs.Sound.{Each}
+use Rattle.rx_tree_laws.specs.Sound.{Each}
 use Rattle.rx_finish.specs.declared.ledger.Caller.{Caller}
 use Rattle.rx_ticket.specs.declared.tickets.AnyTicket.{AnyTicket}
 use Rattle.rx_ticket.specs.declared.tickets.AnyTicket.TheVariants.{Host}
@@ -21,7 +21,7 @@ use Rattle.rx_book.specs.declared.views.View.{View}
 use Rattle.rx_book.specs.declared.passes.Note.{Note}
 use Rattle.rx_book.specs.History.{items_of, entries_by}
 use Rattle.rx_book.specs.Passes.{view_of, word_of, note_view}
-use Rattle.rx_book.specs.Calls.{Begins}
+use Rattle.rx_book.specs.Calls.{BeginsWithSeen}
 use Rattle.rx_ledger.specs.Answering.{asker}
 use Rattle.rx_ledger.specs.Staying.{NotOf}
 use Rattle.rx_parts.specs.Ledger.{LedgerItem, Actor, LegalLedger, entries_of}
@@ -72,7 +72,7 @@ pub record AsksLedger (code : Block) (f : LedgerFixed) (v : View EntryItem) (op 
 -- An operation of the ledger's book that is asked so fits each history in which the book may make the call.
 abbrev pub LedgerOpFits : Type 0
 LedgerOpFits = (f : LedgerFixed) (place : EntryItem → Option ℕ) (v : View EntryItem) (log : List (Stamped EntryItem)) (op : LedgerOp)
-    (code : Block) → Stands f.program.script code → v.mine ≡ entries_by v.number v.seen → Begins place v log → LedgerIsLegal f log
+    (code : Block) → Stands f.program.script code → v.mine ≡ entries_by v.number v.seen → BeginsWithSeen place v log → LedgerIsLegal f log
     → ((other : Block) → Stands f.program.script other → AsksLedger other f v op) → LedgerFits f log v.number op
 
 -- The host may ask for the root's release at any time, by a pass with its number. It mentions no event and brings no note.
@@ -102,7 +102,7 @@ pub record AsksPlace (f : PlaceFixed) (v : View EventItem) (op : PlaceOp) : Type
 -- An operation of a place's book that is asked so fits each history in which the book may make the call.
 abbrev pub PlaceOpFits : Type 0
 PlaceOpFits = (f : PlaceFixed) (place : EventItem → Option ℕ) (v : View EventItem) (log : List (Stamped EventItem)) (op : PlaceOp)
-    → v.mine ≡ entries_by v.number v.seen → Begins place v log → PlaceIsLegal f log → AsksPlace f v op → PlaceFits f log v.number op
+    → v.mine ≡ entries_by v.number v.seen → BeginsWithSeen place v log → PlaceIsLegal f log → AsksPlace f v op → PlaceFits f log v.number op
 
 -- the note has seen a beginning of its place's history
 abbrev pub HasBeginning : List (List MadeEvent) → PlaceId × Note EventItem → Type 0

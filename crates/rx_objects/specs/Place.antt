@@ -14,7 +14,7 @@ use Rattle.rx_syntax.specs.Shape.{Stands}
 use Rattle.rx_history.specs.declared.step.Next.TheVariants.{Cell as CellStep}
 use Rattle.rx_history.specs.Next.{next_of}
 use Rattle.rx_history.specs.Setups.{given}
-use Rattle.rx_store.specs.Kept.{Kept, ends_closed, last_stamp}
+use Rattle.rx_store.specs.Kept.{StoreView, ends_closed, last_stamp}
 use Rattle.rx_store.specs.Asked.{CallIsTold, MayAskStore}
 use Rattle.rx_book.specs.declared.views.Stamped.{Stamped}
 use Rattle.rx_book.specs.declared.views.View.{View}
@@ -171,7 +171,7 @@ NoteIsKept ledger place items None = Unit {0}
 NoteIsKept ledger place items (Some n) = NoteKeeps ledger place items n
 
 -- what a place's object keeps: its items are the events of its open store, at most 2^31
-pub record PlaceKeeps (place : PlaceId) (store : Kept) (ledger : BookName LedgerFixed) (note : Option (Note EntryItem))
+pub record PlaceKeeps (place : PlaceId) (store : StoreView) (ledger : BookName LedgerFixed) (note : Option (Note EntryItem))
     (items : List EventItem) : Type 0 where
   pub same : events_in items ≡ store.events
   pub is_open : ends_closed store.events ≡ false
@@ -181,7 +181,8 @@ pub record PlaceKeeps (place : PlaceId) (store : Kept) (ledger : BookName Ledger
 
 -- what a place's book leaves that was closed by a pass which had seen this: a legal history that begins so, the store, and the note
 -- that it kept
-pub record PlaceCloses (f : PlaceFixed) (seen : List (Stamped EventItem)) (store : Kept) (note : Option (Note EntryItem)) : Type 0 where
+pub record PlaceCloses (f : PlaceFixed) (seen : List (Stamped EventItem)) (store : StoreView)
+    (note : Option (Note EntryItem)) : Type 0 where
   pub history : List (Stamped EventItem)
   pub lawful : PlaceIsLegal f history
   pub begins : IsPrefix seen history

@@ -5,7 +5,7 @@ use Rattle.rx_rules.specs.declared.entries.Entry.{Entry}
 use Rattle.rx_rules.specs.Tree.{Tree}
 use Rattle.rx_rules.specs.Fold.{tree_of}
 use Rattle.rx_finish.specs.Totals.{totals_of}
-use Rattle.rx_ledger.specs.Kept.{Kept}
+use Rattle.rx_ledger.specs.Kept.{KeeperView}
 use Rattle.rx_monitor.specs.declared.summary.Summary.{Summary}
 use Rattle.rx_monitor.specs.Boards.{Listing}
 use Rattle.rx_monitor.specs.Sums.{Rises}
@@ -31,7 +31,7 @@ abbrev pub summary_of : ℕ → List Entry → ℕ → Summary
 summary_of places es m = summary_at m (tree_of places (take m es))
 
 -- the summary of all entries of a keeper
-abbrev pub whole_of : Kept → Summary
+abbrev pub whole_of : KeeperView → Summary
 whole_of k = summary_of k.setup.places k.entries (length k.entries)
 
 -- which board it is, if there is one

@@ -2,7 +2,7 @@
 ghost use Rattle.std.specs.Prelude.{◌≡◌, IsOk, IfOk, List};
 ghost use Rattle.rx_book.specs.declared.views.Stamped.{Stamped};
 ghost use Rattle.rx_book.specs.Kept.{parent_left, born};
-ghost use Rattle.rx_book.specs.Calls.{Begins, Called, Met, Looked};
+ghost use Rattle.rx_book.specs.Calls.{BeginsWithSeen, Called, Met, Looked};
 ghost use Rattle.rx_book.specs.Passes.{view_of, word_of, note_view, note_word, IsAsSeen};
 ghost use Rattle.rx_book.specs.Named.{BookName};
 ghost use Rattle.rx_parts.specs.declared.items.EntryItem.{EntryItem as Item};
@@ -24,7 +24,7 @@ pub trait LedgerBook {
     /// As `Book::call`.
     fn call<R: Wait>(&self, rt: &R, pass: &mut Pass<EntryItem>, op: LedgerOp) -> LedgerReply
         requires own { word_of pass.old ≡ (name self.now).word }
-        requires fits { (h : List (Stamped Item)) → LedgerIsLegal (name self.now).fixed h → Begins shown (view_of pass.old) h
+        requires fits { (h : List (Stamped Item)) → LedgerIsLegal (name self.now).fixed h → BeginsWithSeen shown (view_of pass.old) h
             → LedgerFits (name self.now).fixed h (view_of pass.old).number op }
         ensures own { word_of pass.new ≡ word_of pass.old }
         ensures called { Called shown (LedgerDoes (name self.now).fixed) (LedgerIsLegal (name self.now).fixed) (view_of pass.old) op

@@ -2,7 +2,7 @@
 ghost use Rattle.std.specs.Prelude.{◌≡◌, IsOk, IfOk, List};
 ghost use Rattle.rx_book.specs.declared.views.Stamped.{Stamped};
 ghost use Rattle.rx_book.specs.Kept.{parent_left, born};
-ghost use Rattle.rx_book.specs.Calls.{Begins, Called, Met};
+ghost use Rattle.rx_book.specs.Calls.{BeginsWithSeen, Called, Met};
 ghost use Rattle.rx_book.specs.Passes.{view_of, word_of, note_view, note_word, IsAsSeen};
 ghost use Rattle.rx_book.specs.Named.{BookName};
 ghost use Rattle.rx_parts.specs.declared.items.EventItem.{EventItem as Item};
@@ -26,7 +26,7 @@ pub trait PlaceBook {
     /// As `Book::call`.
     fn call<R: Wait>(&self, rt: &R, seat: &mut Pass<EventItem>, op: PlaceOp) -> PlaceReply
         requires own { word_of seat.old ≡ (name self.now).word }
-        requires fits { (h : List (Stamped Item)) → PlaceIsLegal (name self.now).fixed h → Begins unshown (view_of seat.old) h
+        requires fits { (h : List (Stamped Item)) → PlaceIsLegal (name self.now).fixed h → BeginsWithSeen unshown (view_of seat.old) h
             → PlaceFits (name self.now).fixed h (view_of seat.old).number op }
         ensures own { word_of seat.new ≡ word_of seat.old }
         ensures called { Called unshown (PlaceDoes (name self.now).fixed) (PlaceIsLegal (name self.now).fixed) (view_of seat.old) op

@@ -5,8 +5,8 @@ use Rattle.std.proofs.lemmas.Option.{same_Some}
 use Rattle.rx_base.proofs.Elements.{drop-next}
 use Rattle.rx_rules.proofs.Common.{Stmt, SetTo, New, Get, Put, Forget, Census, Print, Throw, Async, AtAsync, At, Finish, If, Repeat, Try, Block, Nothing, Then}
 use Rattle.rx_syntax.specs.Shape.{Shape, BlockStands}
-use Rattle.rx_order.specs.declared.marks.Mark.{Mark}
-use Rattle.rx_order.specs.declared.marks.Mark.TheVariants.{Follows, Branches}
+use Rattle.rx_order.specs.declared.marks.Role.{Role}
+use Rattle.rx_order.specs.declared.marks.Role.TheVariants.{Follows, Branches}
 use Rattle.rx_order.specs.declared.parts.Part.{Part}
 use Rattle.rx_order.specs.Marks.{mark_of, marks, marks_in}
 use Rattle.rx_order.specs.Inside.Parts.{item_of, part_in, part_mark, marks_along, IsPart}
@@ -55,7 +55,7 @@ pub record Marked (s : Shape) (path : List ℕ) (n : ℕ) (r : Part) (t : Stmt) 
   pub same : marks t x ≡ option_to_list (part_mark t r.number) ++ marks_along block (drop r.at path)
   pub at : r.at ≡ n
 
-marks-block : (b : Block) (x y : List ℕ) (ms : List Mark) → ms ≡ marks_along b x → y ≡ x → ms ≡ marks_along b y
+marks-block : (b : Block) (x y : List ℕ) (ms : List Role) → ms ≡ marks_along b x → y ≡ x → ms ≡ marks_along b y
 marks-block b x y ms e f = e ∙ ap (marks_along b) (sym f)
 
 whole : (b : Block) (x : List ℕ) → (t : Stmt) → ((i : ℕ) (y : List ℕ) → marks t (i ∷ y) ≡ marks_in b i y) → marks t [] ≡ [] → marks t x ≡ marks_along b x

@@ -1,11 +1,11 @@
 -- What each number of a path stands for.
 use Rattle.std.specs.Prelude.{ℕ, zero, suc, List, [], ◌∷◌}
 use Rattle.rx_rules.specs.Code.{Stmt, Async, AtAsync, At, Finish, If, Repeat, Try, Block, Nothing, Then}
-use Rattle.rx_order.specs.declared.marks.Mark.{Mark}
-use Rattle.rx_order.specs.declared.marks.Mark.TheVariants.{Starts, Waits, Follows, Branches}
+use Rattle.rx_order.specs.declared.marks.Role.{Role}
+use Rattle.rx_order.specs.declared.marks.Role.TheVariants.{Starts, Waits, Follows, Branches}
 
 -- of the position of a statement
-abbrev pub mark_of : Stmt → Mark
+abbrev pub mark_of : Stmt → Role
 mark_of (Async body) = Starts
 mark_of (AtAsync place body) = Starts
 mark_of (Finish body) = Waits
@@ -13,7 +13,7 @@ mark_of s = Follows
 
 -- of each number along x, from a statement on
 abbrev mutual
-  pub marks : Stmt → List ℕ → List Mark
+  pub marks : Stmt → List ℕ → List Role
   marks (Async body) (i ∷ x) = marks_in body i x
   marks (AtAsync place body) (i ∷ x) = marks_in body i x
   marks (At place body) (i ∷ x) = marks_in body i x
@@ -26,12 +26,12 @@ abbrev mutual
   marks s x = []
 
   -- from the statement at position i on
-  pub marks_in : Block → ℕ → List ℕ → List Mark
+  pub marks_in : Block → ℕ → List ℕ → List Role
   marks_in Nothing i x = []
   marks_in (Then first rest) zero x = mark_of first ∷ marks first x
   marks_in (Then first rest) (suc i) x = marks_in rest i x
 
 -- of a whole path of a script
-abbrev pub marks_of : Block → List ℕ → List Mark
+abbrev pub marks_of : Block → List ℕ → List Role
 marks_of code [] = []
 marks_of code (i ∷ x) = marks_in code i x

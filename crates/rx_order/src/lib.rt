@@ -4,7 +4,7 @@
 //!
 //! x is before y where the two paths part at a position in a block, at a turn of a `repeat` or at the body and handler of a `try`, x
 //! has the lesser number there, and each `async` and each `at e async` along x from there on has a `finish` before it. That a run
-//! tells x first where it tells both is a law of rx_laws, and not of this crate.
+//! tells x first where it tells both is a law of rx_history_laws, and not of this crate.
 //!
 //! It promises no more than that. An `async` outside a `finish` is before nothing that follows it, and neither is a statement in it:
 //! in `async { print 1; } print 2;` neither `print` is before the other. The two branches of an `if` are in no order, and neither are
@@ -17,5 +17,5 @@ mod marks;
 mod order;
 mod parts;
 
-pub use marks::{Mark, mark_numbers};
+pub use marks::{Role, mark_numbers};
 pub use order::before;

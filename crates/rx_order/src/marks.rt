@@ -12,7 +12,7 @@ use rx_syntax::{Stmt, whole};
 
 /// What a number of a path stands for, as far as the order of statements asks.
 #[derive(Clone, Copy, Debug, PartialEq, Eq)]
-pub enum Mark {
+pub enum Role {
     /// The position of an `async` or an `at e async`: what follows it in its block does not wait for it.
     Starts,
     /// The position of a `finish`: what follows it waits for all inside it.
@@ -26,7 +26,7 @@ pub enum Mark {
 
 /// Makes `marks` the list of what each number of the path stands for. For a path of the program there is one mark for each
 /// number. For any other path the list ends where the program has no statement. A refusal leaves any list.
-pub fn mark_numbers(p: &Program, x: &[u32], marks: &mut Vec<Mark>) -> Result<(), NoMemory>
+pub fn mark_numbers(p: &Program, x: &[u32], marks: &mut Vec<Role>) -> Result<(), NoMemory>
     ensures { (t : Block) → Stands p.now.script t → IfOk result (λ _. marks.new.items ≡ marks_of t x.now) }
 {
     let script = p.script();
@@ -52,40 +52,40 @@ pub fn mark_numbers(p: &Program, x: &[u32], marks: &mut Vec<Mark>) -> Result<(),
 }
 
 // What the position of a statement stands for.
-fn position_mark(stmt: Stmt) -> Mark
+fn position_mark(stmt: Stmt) -> Role
     ensures { (s : Shape) (t : Tree) → StmtIs s stmt t → result ≡ mark_of t }
 {
     match stmt {
-        Stmt::Async { .. } => Mark::Starts,
-        Stmt::AtAsync { .. } => Mark::Starts,
-        Stmt::Finish { .. } => Mark::Waits,
-        Stmt::At { .. } => Mark::Follows,
-        Stmt::If { .. } => Mark::Follows,
-        Stmt::Repeat { .. } => Mark::Follows,
-        Stmt::Try { .. } => Mark::Follows,
-        Stmt::Set { .. } => Mark::Follows,
-        Stmt::New { .. } => Mark::Follows,
-        Stmt::Get { .. } => Mark::Follows,
-        Stmt::Put { .. } => Mark::Follows,
-        Stmt::Forget { .. } => Mark::Follows,
-        Stmt::Census { .. } => Mark::Follows,
-        Stmt::Print { .. } => Mark::Follows,
-        Stmt::Throw { .. } => Mark::Follows,
+        Stmt::Async { .. } => Role::Starts,
+        Stmt::AtAsync { .. } => Role::Starts,
+        Stmt::Finish { .. } => Role::Waits,
+        Stmt::At { .. } => Role::Follows,
+        Stmt::If { .. } => Role::Follows,
+        Stmt::Repeat { .. } => Role::Follows,
+        Stmt::Try { .. } => Role::Follows,
+        Stmt::Set { .. } => Role::Follows,
+        Stmt::New { .. } => Role::Follows,
+        Stmt::Get { .. } => Role::Follows,
+        Stmt::Put { .. } => Role::Follows,
+        Stmt::Forget { .. } => Role::Follows,
+        Stmt::Census { .. } => Role::Follows,
+        Stmt::Print { .. } => Role::Follows,
+        Stmt::Throw { .. } => Role::Follows,
     }
 }
 
 // What the number of a part stands for, where one tells it.
-fn part_mark(stmt: Stmt, number: u32) -> Option<Mark>
+fn part_mark(stmt: Stmt, number: u32) -> Option<Role>
     ensures { (s : Shape) (t : Tree) → StmtIs s stmt t → result ≡ part_mark t number }
 {
     match stmt {
-        Stmt::If { .. } => Some(Mark::Branches),
-        Stmt::Repeat { .. } => Some(Mark::Follows),
+        Stmt::If { .. } => Some(Role::Branches),
+        Stmt::Repeat { .. } => Some(Role::Follows),
         Stmt::Try { .. } => {
             if number == 0 {
-                Some(Mark::Follows)
+                Some(Role::Follows)
             } else {
-                Some(Mark::Branches)
+                Some(Role::Branches)
             }
         }
         Stmt::Async { .. } => None,

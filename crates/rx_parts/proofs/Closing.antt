@@ -3,7 +3,7 @@ use Rattle.std.proofs.Common.{◌≡◌, ℕ, zero, suc, ◌≤◌, List, [], �
 use Rattle.std.specs.List.{filter_map}
 use Rattle.std.proofs.lemmas.List.{append-nil}
 use Rattle.std.proofs.lemmas.List.Elements.{filter_map-append}
-use Rattle.rx_rules.proofs.Common.{PlaceId, Starts, EachPlays, Begins, birth_of, travels, cell_of, journal_at, moves_from, Given, AllJournals, AtHome, NotFalling, ClosesAt, close_in, death_number}
+use Rattle.rx_rules.proofs.Common.{PlaceId, Starts, EachPlays, BeginsWithArrival, birth_of, travels, cell_of, journal_at, moves_from, Given, AllJournals, AtHome, NotFalling, ClosesAt, close_in, death_number}
 use Rattle.rx_rules.specs.declared.entries.Entry.{Entry}
 use Rattle.rx_rules.specs.declared.entries.Entry.TheVariants.{Step, Root, Death, Join}
 use Rattle.rx_rules.specs.declared.events.PlaceEvent.{PlaceEvent}
@@ -29,7 +29,7 @@ cells_same U es p (k ∷ ks) [] h q t = absurd h
 each_same : (starts : Starts) (es : List Entry) (js ks : List (List PlaceEvent)) → ((q t : ℕ) → filter_map (cell_of t) (journal_at js q) ≡ filter_map (cell_of t) (journal_at ks q)) → (n : ℕ) (ss : Starts) → EachPlays starts es ks n ss → EachPlays starts es js n ss
 each_same starts es js ks f n [] h = tt
 each_same starts es js ks f n (s ∷ ss) h = (
-  subst (λ v. Begins starts (birth_of es n).to (travels (birth_of es n)) (birth_of es n).low s.1 s.0 v (moves_from 0 es n)) (sym (f (birth_of es n).to.0 n)) h.0,
+  subst (λ v. BeginsWithArrival starts (birth_of es n).to (travels (birth_of es n)) (birth_of es n).low s.1 s.0 v (moves_from 0 es n)) (sym (f (birth_of es n).to.0 n)) h.0,
   each_same starts es js ks f (suc n) ss h.1,
 )
 

@@ -2,7 +2,7 @@
 use Rattle.std.proofs.Common.{◌≡◌, ℕ, zero, suc, ◌+◌, ◌<◌, ◌≤◌, Bool, true, false, cond, ◌==◌, List, [], ◌∷◌, ◌++◌, length, slice_get, Option, Some, None, refl, arith, ap, sym, ◌∙◌, subst, append_assoc, inl, inr}
 use Rattle.std.proofs.lemmas.Bool.{eq-eqb, ne_eqb}
 use Rattle.std.proofs.lemmas.List.{append-nil, length-map, map-append}
-use Rattle.rx_rules.proofs.Common.{PlaceId, TaskId, Block, does, Starts, Cells, Moves, Birth, Begins, birth_of, travels, move_of, moves_from, Given, EndsWithRoot, UpTo}
+use Rattle.rx_rules.proofs.Common.{PlaceId, TaskId, Block, does, Starts, Cells, Moves, Birth, BeginsWithArrival, birth_of, travels, move_of, moves_from, Given, EndsWithRoot, UpTo}
 use Rattle.rx_rules.specs.declared.entries.Act.{Act}
 use Rattle.rx_rules.specs.declared.entries.Act.TheVariants.{Arrive, End}
 use Rattle.rx_rules.specs.declared.entries.Entry.{Entry}

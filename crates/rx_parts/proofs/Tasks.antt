@@ -2,7 +2,10 @@
 -- name.
 use Rattle.std.proofs.Common.{◌≡◌, ◌⊎◌, ℕ, suc, Bool, true, false, cond, ◌==◌, not, List, [], ◌∷◌, ◌++◌, length, slice_get, Some, refl, ap, sym, ◌∙◌, subst, inl, inr}
 use Rattle.std.proofs.lemmas.List.{append-nil}
-use Rattle.rx_rules.proofs.Common.{PlaceId, TaskId, Term, Vars, granted, does, Starts, Cells, Moves, Birth, Plays, Begins, StartsSo, started_by, travels, brought, vars_told}
+use Rattle.rx_rules.proofs.Common.{PlaceId, TaskId, Term, Vars, granted, does, Starts, Cells, Moves, Birth, Plays, BeginsWithArrival, StartsSo, started_by, travels, brought, vars_told}
+use Rattle.rx_rules.specs.declared.entries.Act.{Act}
+use Rattle.rx_rules.specs.declared.entries.Act.TheVariants.{Arrive, End}
+use Rattle.rx_rules.specs.declared.entries.Entry.TheVariants.{Step}
 use Rattle.rx_base.proofs.Prefixes.{prefix-trans}
 use Rattle.rx_rules.specs.declared.entries.Act.{Act}
 use Rattle.rx_rules.specs.declared.entries.Act.TheVariants.{Arrive, End}
@@ -76,38 +79,38 @@ LandedBy b moves low rest = (travels b ≡ false) × (moves ≡ rest) × (low �
 pub data ActorOk (starts : Starts) (a : Actor) : Type 0 where
   away : a.phase ≡ Away → travels a.birth ≡ true → a.moves ≡ [] → a.named ≡ [] → a.stand ≡ first_stand a.birth.low a.start → ActorOk starts a
   here : a.phase ≡ Present → (low : ℕ) (rest : Moves) → LandedBy a.birth a.moves low rest → StandGoes starts a.birth.to (first_stand low a.start) a.named rest a.stand → ActorOk starts a
-  over : a.phase ≡ Over → Begins starts a.birth.to (travels a.birth) a.birth.low a.start.1 a.start.0 a.named a.moves → ActorOk starts a
+  over : a.phase ≡ Over → BeginsWithArrival starts a.birth.to (travels a.birth) a.birth.low a.start.1 a.start.0 a.named a.moves → ActorOk starts a
 
 landed_more : (b : Birth) (moves rest : Moves) (low : ℕ) (m : ℕ × Act × List (List ℕ)) → LandedBy b moves low rest → LandedBy b (moves ++ m ∷ []) low (rest ++ m ∷ [])
 landed_more b moves rest low m (inl h) = inl (h.0, ap (λ v. v ++ m ∷ []) h.1, h.2)
 landed_more b moves rest low m (inr h) = inr (h.0, h.1, h.2, ap (λ v. v ++ m ∷ []) h.3, h.4)
 
 -- what it has made where it has landed so
-pub begins_landed : (starts : Starts) (b : Birth) (s : Term × Vars) (cells : Cells) (moves rest : Moves) (low : ℕ) → LandedBy b moves low rest → Plays starts b.to low s.1 s.0 [] cells rest → Begins starts b.to (travels b) b.low s.1 s.0 cells moves
+pub begins_landed : (starts : Starts) (b : Birth) (s : Term × Vars) (cells : Cells) (moves rest : Moves) (low : ℕ) → LandedBy b moves low rest → Plays starts b.to low s.1 s.0 [] cells rest → BeginsWithArrival starts b.to (travels b) b.low s.1 s.0 cells moves
 begins_landed starts b s cells moves rest low (inl h) p =
     let one : Plays starts b.to b.low s.1 s.0 [] cells rest = subst (λ (v : ℕ). Plays starts b.to v s.1 s.0 [] cells rest) h.2 p in
     let two : Plays starts b.to b.low s.1 s.0 [] cells moves = subst (λ (v : Moves). Plays starts b.to b.low s.1 s.0 [] cells v) (sym h.1) one in
-    subst (λ (v : Bool). Begins starts b.to v b.low s.1 s.0 cells moves) (sym h.0) two
+    subst (λ (v : Bool). BeginsWithArrival starts b.to v b.low s.1 s.0 cells moves) (sym h.0) two
 begins_landed starts b s cells moves rest low (inr h) p =
     let one : Plays starts b.to (suc h.0) s.1 s.0 [] cells rest = subst (λ (v : ℕ). Plays starts b.to v s.1 s.0 [] cells rest) h.4 p in
-    subst (λ (v : Bool). Begins starts b.to v b.low s.1 s.0 cells moves) (sym h.2)
-    (subst (λ (v : Moves). Begins starts b.to true b.low s.1 s.0 cells v) (sym h.3) (refl, one))
+    subst (λ (v : Bool). BeginsWithArrival starts b.to v b.low s.1 s.0 cells moves) (sym h.2)
+    (subst (λ (v : Moves). BeginsWithArrival starts b.to true b.low s.1 s.0 cells v) (sym h.3) (refl, one))
 
 -- and back
-pub plays_landed : (starts : Starts) (b : Birth) (s : Term × Vars) (cells : Cells) (moves rest : Moves) (low : ℕ) → LandedBy b moves low rest → Begins starts b.to (travels b) b.low s.1 s.0 cells moves → Plays starts b.to low s.1 s.0 [] cells rest
+pub plays_landed : (starts : Starts) (b : Birth) (s : Term × Vars) (cells : Cells) (moves rest : Moves) (low : ℕ) → LandedBy b moves low rest → BeginsWithArrival starts b.to (travels b) b.low s.1 s.0 cells moves → Plays starts b.to low s.1 s.0 [] cells rest
 plays_landed starts b s cells moves rest low (inl h) p =
-    let one : Begins starts b.to false b.low s.1 s.0 cells moves = subst (λ (v : Bool). Begins starts b.to v b.low s.1 s.0 cells moves) h.0 p in
+    let one : BeginsWithArrival starts b.to false b.low s.1 s.0 cells moves = subst (λ (v : Bool). BeginsWithArrival starts b.to v b.low s.1 s.0 cells moves) h.0 p in
     let two : Plays starts b.to b.low s.1 s.0 [] cells rest = subst (λ (v : Moves). Plays starts b.to b.low s.1 s.0 [] cells v) h.1 one in
     subst (λ (v : ℕ). Plays starts b.to v s.1 s.0 [] cells rest) (sym h.2) two
 plays_landed starts b s cells moves rest low (inr h) p =
-    let one : Begins starts b.to true b.low s.1 s.0 cells moves = subst (λ (v : Bool). Begins starts b.to v b.low s.1 s.0 cells moves) h.2 p in
-    let two : Begins starts b.to true b.low s.1 s.0 cells ((h.0, Arrive h.1, []) ∷ rest) = subst (λ (v : Moves). Begins starts b.to true b.low s.1 s.0 cells v) h.3 one in
+    let one : BeginsWithArrival starts b.to true b.low s.1 s.0 cells moves = subst (λ (v : Bool). BeginsWithArrival starts b.to v b.low s.1 s.0 cells moves) h.2 p in
+    let two : BeginsWithArrival starts b.to true b.low s.1 s.0 cells ((h.0, Arrive h.1, []) ∷ rest) = subst (λ (v : Moves). BeginsWithArrival starts b.to true b.low s.1 s.0 cells v) h.3 one in
     subst (λ (v : ℕ). Plays starts b.to v s.1 s.0 [] cells rest) (sym h.4) two.1
 
-pub begins_of : {starts : Starts} {a : Actor} → ActorOk starts a → Begins starts a.birth.to (travels a.birth) a.birth.low a.start.1 a.start.0 a.named a.moves
+pub begins_of : {starts : Starts} {a : Actor} → ActorOk starts a → BeginsWithArrival starts a.birth.to (travels a.birth) a.birth.low a.start.1 a.start.0 a.named a.moves
 begins_of {starts = starts} {a = a} (away e t m c s) =
-    subst (λ (v : Bool). Begins starts a.birth.to v a.birth.low a.start.1 a.start.0 a.named a.moves) (sym t)
-    (subst (λ (v : Moves). Begins starts a.birth.to true a.birth.low a.start.1 a.start.0 a.named v) (sym m) c)
+    subst (λ (v : Bool). BeginsWithArrival starts a.birth.to v a.birth.low a.start.1 a.start.0 a.named a.moves) (sym t)
+    (subst (λ (v : Moves). BeginsWithArrival starts a.birth.to true a.birth.low a.start.1 a.start.0 a.named v) (sym m) c)
 begins_of {starts = starts} {a = a} (here e low rest l g) = begins_landed starts a.birth a.start a.named a.moves rest low l (stopped g)
 begins_of (over e h) = h
 

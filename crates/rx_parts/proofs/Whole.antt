@@ -4,7 +4,10 @@ use Rattle.std.specs.List.{filter_map, cons_option}
 use Rattle.std.proofs.lemmas.Bool.{eqb-true, eq-eqb, ne_eqb, true≢false}
 use Rattle.std.proofs.lemmas.List.{append-nil, length-map}
 use Rattle.std.proofs.lemmas.List.Elements.{filter_map-append}
-use Rattle.rx_rules.proofs.Common.{PlaceId, Block, Term, Vars, opening, births, Starts, Cells, Moves, Birth, Plays, Begins, EachPlays, Played, birth_of, travels, cell_of, journal_at, moves_from, Given, NotFalling, AtHome, UpTo}
+use Rattle.rx_rules.proofs.Common.{PlaceId, Block, Term, Vars, opening, births, Starts, Cells, Moves, Birth, Plays, BeginsWithArrival, EachPlays, Played, birth_of, travels, cell_of, journal_at, moves_from, Given, NotFalling, AtHome, UpTo}
+use Rattle.rx_rules.specs.declared.entries.Entry.{Entry}
+use Rattle.rx_rules.specs.declared.events.PlaceEvent.{PlaceEvent}
+use Rattle.rx_rules.specs.declared.events.PlaceEvent.TheVariants.{Done as Did, Close}
 use Rattle.rx_base.proofs.Prefixes.{prefix-trans}
 use Rattle.rx_rules.specs.declared.entries.Entry.{Entry}
 use Rattle.rx_rules.specs.declared.events.PlaceEvent.{PlaceEvent}
@@ -156,7 +159,7 @@ last_from code U p t before low seen (m ∷ k) above h =
 -- One task.
 
 abbrev PlaysHere : Starts → Actor → Cells → Type 0
-PlaysHere starts a cells = Begins starts a.birth.to (travels a.birth) a.birth.low a.start.1 a.start.0 cells a.moves
+PlaysHere starts a cells = BeginsWithArrival starts a.birth.to (travels a.birth) a.birth.low a.start.1 a.start.0 cells a.moves
 
 pub landed_late : (b d : Birth) (moves others rest late : Moves) (low : ℕ) → d ≡ b → others ≡ moves ++ late → LandedBy b moves low rest → LandedBy d others low (rest ++ late)
 landed_late b d moves others rest late low e f (inl h) = inl (ap travels e ∙ h.0, f ∙ ap (λ v. v ++ late) h.1, h.2 ∙ ap (λ (v : Birth). v.low) (sym e))
@@ -250,9 +253,9 @@ each_plays starts es js n [] f = tt
 each_plays starts es js n (a ∷ actors) f =
     let z : n + 0 ≡ n = omega arith in
     let r = f 0 a refl in
-    let plays : Begins starts a.birth.to (travels a.birth) a.birth.low a.start.1 a.start.0 (filter_map (cell_of (n + 0)) (journal_at js a.birth.to.0)) (moves_from 0 es (n + 0)) = subst (λ (v : Moves). Begins starts a.birth.to (travels a.birth) a.birth.low a.start.1 a.start.0 (filter_map (cell_of (n + 0)) (journal_at js a.birth.to.0)) v) r.1 r.2 in
-    let born : Begins starts (birth_of es (n + 0)).to (travels (birth_of es (n + 0))) (birth_of es (n + 0)).low a.start.1 a.start.0 (filter_map (cell_of (n + 0)) (journal_at js (birth_of es (n + 0)).to.0)) (moves_from 0 es (n + 0)) = subst (λ (v : Birth). Begins starts v.to (travels v) v.low a.start.1 a.start.0 (filter_map (cell_of (n + 0)) (journal_at js v.to.0)) (moves_from 0 es (n + 0))) (sym r.0) plays in (
-      subst (λ (v : ℕ). Begins starts (birth_of es v).to (travels (birth_of es v)) (birth_of es v).low a.start.1 a.start.0 (filter_map (cell_of v) (journal_at js (birth_of es v).to.0)) (moves_from 0 es v)) z born,
+    let plays : BeginsWithArrival starts a.birth.to (travels a.birth) a.birth.low a.start.1 a.start.0 (filter_map (cell_of (n + 0)) (journal_at js a.birth.to.0)) (moves_from 0 es (n + 0)) = subst (λ (v : Moves). BeginsWithArrival starts a.birth.to (travels a.birth) a.birth.low a.start.1 a.start.0 (filter_map (cell_of (n + 0)) (journal_at js a.birth.to.0)) v) r.1 r.2 in
+    let born : BeginsWithArrival starts (birth_of es (n + 0)).to (travels (birth_of es (n + 0))) (birth_of es (n + 0)).low a.start.1 a.start.0 (filter_map (cell_of (n + 0)) (journal_at js (birth_of es (n + 0)).to.0)) (moves_from 0 es (n + 0)) = subst (λ (v : Birth). BeginsWithArrival starts v.to (travels v) v.low a.start.1 a.start.0 (filter_map (cell_of (n + 0)) (journal_at js v.to.0)) (moves_from 0 es (n + 0))) (sym r.0) plays in (
+      subst (λ (v : ℕ). BeginsWithArrival starts (birth_of es v).to (travels (birth_of es v)) (birth_of es v).low a.start.1 a.start.0 (filter_map (cell_of v) (journal_at js (birth_of es v).to.0)) (moves_from 0 es v)) z born,
       each_plays starts es js (suc n) actors (λ k b got. let e : n + suc k ≡ suc n + k = omega arith in subst (λ (v : ℕ). (birth_of es v ≡ b.birth) × (b.moves ≡ moves_from 0 es v) × PlaysHere starts b (filter_map (cell_of v) (journal_at js b.birth.to.0))) e (f (suc k) b got)),
     )
 

@@ -11,7 +11,7 @@ use Rattle.rx_rules.specs.Run.{Given, death_number}
 use Rattle.rx_book.specs.declared.views.Stamped.{Stamped}
 use Rattle.rx_book.specs.declared.views.View.{View}
 use Rattle.rx_book.specs.History.{entries_by}
-use Rattle.rx_book.specs.Calls.{Begins, Met}
+use Rattle.rx_book.specs.Calls.{BeginsWithSeen, Met}
 use Rattle.rx_parts.specs.Ledger.{LedgerItem, Actor, LegalLedger, entries_of}
 use Rattle.rx_parts.specs.Places.{MadeEvent, LegalPlace, journal_of, seen_by}
 use Rattle.rx_parts.specs.Closing.{StampedTo}
@@ -26,7 +26,7 @@ use Rattle.rx_parts.specs.Histories.{ledger_items, made_events, cells_in}
 -- are those that the pass has seen.
 abbrev pub CellsStay : Type 0
 CellsStay = (place : EventItem → Option ℕ) (v : View EventItem) (k : List (Stamped EventItem)) (t : ℕ)
-    → v.mine ≡ entries_by v.number v.seen → Begins place v k → EachSeated t v.number (made_events k)
+    → v.mine ≡ entries_by v.number v.seen → BeginsWithSeen place v k → EachSeated t v.number (made_events k)
     → cells_in t k ≡ cells_in t v.seen
 
 -- A call of the store that a pass may make by what it has seen of its place, with g of the ledger's history: it may be made in each
@@ -35,7 +35,7 @@ CellsStay = (place : EventItem → Option ℕ) (v : View EventItem) (k : List (S
 abbrev pub CallFits : Type 0
 CallFits = (code : Block) (U : Given) (p : ℕ) (place : EventItem → Option ℕ) (v : View EventItem) (k : List (Stamped EventItem))
     (g more : List LedgerItem) (t : TaskId) (mark : ℕ) (path : List ℕ) (d : Does) → v.mine ≡ entries_by v.number v.seen
-    → Begins place v k → LegalPlace code U p (made_events k)
+    → BeginsWithSeen place v k → LegalPlace code U p (made_events k)
     → (call : MayCallStore code U p (journal_of (made_events v.seen)) g v.number t mark path d)
     → LegalLedger code U (g ++ more) → IsPrefix (seen_by (made_events k)) (g ++ more) → NoneBy call.actor.holder more
     → MayCallStore code U p (journal_of (made_events k)) (g ++ more) v.number t mark path d

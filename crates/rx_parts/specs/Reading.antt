@@ -10,7 +10,7 @@ use Rattle.rx_rules.specs.declared.events.PlaceEvent.{PlaceEvent}
 use Rattle.rx_rules.specs.Code.{Block}
 use Rattle.rx_rules.specs.Terms.{Empty, no_vars, items}
 use Rattle.rx_rules.specs.Fold.{births}
-use Rattle.rx_rules.specs.Plays.{Starts, Cells, Moves, Begins, birth_of, travels, moves_from}
+use Rattle.rx_rules.specs.Plays.{Starts, Cells, Moves, BeginsWithArrival, birth_of, travels, moves_from}
 use Rattle.rx_rules.specs.Run.{Given, EndsWithRoot}
 use Rattle.rx_rules.specs.Inversions.{UpTo}
 use Rattle.rx_parts.specs.Ledger.{LedgerItem, Actor, LegalLedger, entries_of}

@@ -2,7 +2,7 @@
 //! each place have a book of their own, and no lock is held over two of them. Here stands when the history of such a book is
 //! legal, and the law that legal histories, which name and carry each other, are one whole run of the script. These statements are
 //! over plain lists, without words, seats or locks. Here stand also the items of such books, and how a book's history is such a list.
-//! The crate stands on rx_rules, rx_sound, rx_runs and rx_book. Lemmas say how legal histories grow, and by what a pass has seen it
+//! The crate stands on rx_rules, rx_tree_laws, rx_runs and rx_book. Lemmas say how legal histories grow, and by what a pass has seen it
 //! meets the condition of `Book::call`; the proofs of the crates above cite them.
 #![tactic(auto)]
 

@@ -5,7 +5,7 @@ use Rattle.std.proofs.lemmas.List.{length-map, length-append}
 use Rattle.std.proofs.lemmas.List.Elements.{filter_map-append}
 use Rattle.std.proofs.lemmas.Bool.{eq-eqb}
 use mathlib.Core.List.{IsPrefix}
-use Rattle.rx_rules.proofs.Common.{PlaceId, TaskId, Block, Term, Vars, Empty, Answer, items, no_vars, does, begins, Tree, made, AllAllowed, births, births_of, opening, opens, Starts, Cells, Moves, Birth, Plays, Begins, EachPlays, Tells, birth_of, birth_from, travels, cell_of, journal_at, moves_from, State, IsStoreRun, after_cell, opening_state, Given, IsRun, PlanKept, plan_of, AllJournals, AtHome, NotFalling, ClosesAt, death_number, FromOn, events_of_task}
+use Rattle.rx_rules.proofs.Common.{PlaceId, TaskId, Block, Term, Vars, Empty, Answer, items, no_vars, does, begins, Tree, made, AllAllowed, births, births_of, opening, opens, Starts, Cells, Moves, Birth, Plays, BeginsWithArrival, EachPlays, Tells, birth_of, birth_from, travels, cell_of, journal_at, moves_from, State, IsStoreRun, after_cell, opening_state, Given, IsRun, PlanKept, plan_of, AllJournals, AtHome, NotFalling, ClosesAt, death_number, FromOn, events_of_task}
 use Rattle.rx_rules.specs.declared.entries.Act.TheVariants.{Arrive}
 use Rattle.rx_rules.specs.declared.entries.Entry.{Entry}
 use Rattle.rx_rules.specs.declared.entries.Entry.TheVariants.{Root}
@@ -15,7 +15,7 @@ use Rattle.rx_rules.specs.declared.events.PlaceEvent.TheVariants.{Done as Did, C
 use Rattle.rx_rules.specs.Plays as rules
 use Rattle.rx_rules.proofs.Inverting.{cells_from_low}
 use Rattle.rx_rules.proofs.Numbers.{next-made}
-use Rattle.rx_sound.proofs.Histories.{none_yet}
+use Rattle.rx_tree_laws.proofs.Histories.{none_yet}
 use Rattle.rx_runs.specs.Segments.{Stand}
 use Rattle.rx_runs.proofs.Pairs.{journal_got}
 use Rattle.rx_runs.proofs.RootLast.{root_last-ends}
@@ -41,28 +41,28 @@ birth_first n k T (e ∷ es) a low =
     ap (λ (o : Option Birth). elim o as (λ _. Birth) [ Some b ↦ b | None ↦ birth_from (suc n) es k ]) (birth_none n k T.next_task e (numbered T T.next_task e a.0 refl) (inl low))
     ∙ birth_first (suc n) k (made n T e) es a.1 (omega (arith, next, low))
 
-plays_at : (starts : Starts) (es : List Entry) (js : List (List PlaceEvent)) (n : ℕ) (ss : Starts) (k : ℕ) (s : Term × Vars) → EachPlays starts es js n ss → slice_get ss k ≡ Some s → Begins starts (birth_of es (n + k)).to (travels (birth_of es (n + k))) (birth_of es (n + k)).low s.1 s.0 (filter_map (cell_of (n + k)) (journal_at js (birth_of es (n + k)).to.0)) (moves_from 0 es (n + k))
+plays_at : (starts : Starts) (es : List Entry) (js : List (List PlaceEvent)) (n : ℕ) (ss : Starts) (k : ℕ) (s : Term × Vars) → EachPlays starts es js n ss → slice_get ss k ≡ Some s → BeginsWithArrival starts (birth_of es (n + k)).to (travels (birth_of es (n + k))) (birth_of es (n + k)).low s.1 s.0 (filter_map (cell_of (n + k)) (journal_at js (birth_of es (n + k)).to.0)) (moves_from 0 es (n + k))
 plays_at starts es js n [] k s h got = absurd (let f : ⊥ = cc in f)
 plays_at starts es js n (v ∷ ss) zero s h got =
     let z : n + 0 ≡ n = omega arith in
     let it : v ≡ s = cc in
-    subst (λ (i : ℕ). Begins starts (birth_of es i).to (travels (birth_of es i)) (birth_of es i).low s.1 s.0 (filter_map (cell_of i) (journal_at js (birth_of es i).to.0)) (moves_from 0 es i)) (sym z)
-    (subst (λ (u : Term × Vars). Begins starts (birth_of es n).to (travels (birth_of es n)) (birth_of es n).low u.1 u.0 (filter_map (cell_of n) (journal_at js (birth_of es n).to.0)) (moves_from 0 es n)) it h.0)
+    subst (λ (i : ℕ). BeginsWithArrival starts (birth_of es i).to (travels (birth_of es i)) (birth_of es i).low s.1 s.0 (filter_map (cell_of i) (journal_at js (birth_of es i).to.0)) (moves_from 0 es i)) (sym z)
+    (subst (λ (u : Term × Vars). BeginsWithArrival starts (birth_of es n).to (travels (birth_of es n)) (birth_of es n).low u.1 u.0 (filter_map (cell_of n) (journal_at js (birth_of es n).to.0)) (moves_from 0 es n)) it h.0)
 plays_at starts es js n (v ∷ ss) (suc k) s h got =
     let e : n + suc k ≡ suc n + k = omega arith in
-    subst (λ (i : ℕ). Begins starts (birth_of es i).to (travels (birth_of es i)) (birth_of es i).low s.1 s.0 (filter_map (cell_of i) (journal_at js (birth_of es i).to.0)) (moves_from 0 es i)) (sym e) (plays_at starts es js (suc n) ss k s h.1 got)
+    subst (λ (i : ℕ). BeginsWithArrival starts (birth_of es i).to (travels (birth_of es i)) (birth_of es i).low s.1 s.0 (filter_map (cell_of i) (journal_at js (birth_of es i).to.0)) (moves_from 0 es i)) (sym e) (plays_at starts es js (suc n) ss k s h.1 got)
 
 first_now : (code : Block) (U : Given) (es : List Entry) (js : List (List PlaceEvent)) (run : IsRun code U es js) → Now run.played.starts 0 (events_of_task es js) (main_actor code U.places ∷ []) (events_of_task es js) es
 first_now code U es js run = record { going = going_first; unborn = λ k le. (λ s got. plays_as k s got, refl) } where
-  plays_as : (k : ℕ) (s : Term × Vars) → slice_get run.played.starts k ≡ Some s → Begins run.played.starts (birth_of es k).to (travels (birth_of es k)) (birth_of es k).low s.1 s.0 (events_of_task es js k) (moves_from 0 es k)
+  plays_as : (k : ℕ) (s : Term × Vars) → slice_get run.played.starts k ≡ Some s → BeginsWithArrival run.played.starts (birth_of es k).to (travels (birth_of es k)) (birth_of es k).low s.1 s.0 (events_of_task es js k) (moves_from 0 es k)
   plays_as k s got =
       let z : 0 + k ≡ k = omega arith in
-      subst (λ (i : ℕ). Begins run.played.starts (birth_of es i).to (travels (birth_of es i)) (birth_of es i).low s.1 s.0 (events_of_task es js i) (moves_from 0 es i)) z (plays_at run.played.starts es js 0 run.played.starts k s run.played.each got)
+      subst (λ (i : ℕ). BeginsWithArrival run.played.starts (birth_of es i).to (travels (birth_of es i)) (birth_of es i).low s.1 s.0 (events_of_task es js i) (moves_from 0 es i)) z (plays_at run.played.starts es js 0 run.played.starts k s run.played.each got)
 
   main_plays : Plays run.played.starts (record { 0 = 0 }) 0 (no_vars U.places) (items code [] Empty) [] (events_of_task es js 0) (moves_from 0 es 0)
   main_plays =
       let b : birth_of es 0 ≡ birth_from 0 [] 0 = birth_first 0 0 (opening U.places) es run.folds.allowed (omega arith) in
-      subst (λ (v : Birth). Begins run.played.starts v.to (travels v) v.low (no_vars U.places) (items code [] Empty) (events_of_task es js 0) (moves_from 0 es 0)) b (plays_as 0 (items code [] Empty, no_vars U.places) run.played.main)
+      subst (λ (v : Birth). BeginsWithArrival run.played.starts v.to (travels v) v.low (no_vars U.places) (items code [] Empty) (events_of_task es js 0) (moves_from 0 es 0)) b (plays_as 0 (items code [] Empty, no_vars U.places) run.played.main)
 
   going_first : (k : ℕ) (a : Actor) → slice_get (main_actor code U.places ∷ []) k ≡ Some a → Going run.played.starts 0 0 (events_of_task es js k) a (events_of_task es js k) (moves_from 0 es k)
   going_first zero a got =
@@ -150,7 +150,7 @@ named_before n s c x (d ∷ told) cells (e ∷ before) later le b h =
     (r.0, ap (λ v. e ∷ v) r.1 ∙ ap (λ v. v ∷ (told ++ r.0)) (sym head), r.2)
 
 -- who has yet to arrive has no event before it arrives
-away_late : (starts : Starts) (place : PlaceId) (low : ℕ) (vars : Vars) (t : Term) (since : Cells) (s : ℕ) (c : Cell) (x : List ℕ) (later cells : Cells) (moves : Moves) → cells ≡ since ++ (s, c, x) ∷ later → NotBefore s moves → Begins starts place true low vars t cells moves → ⊥
+away_late : (starts : Starts) (place : PlaceId) (low : ℕ) (vars : Vars) (t : Term) (since : Cells) (s : ℕ) (c : Cell) (x : List ℕ) (later cells : Cells) (moves : Moves) → cells ≡ since ++ (s, c, x) ∷ later → NotBefore s moves → BeginsWithArrival starts place true low vars t cells moves → ⊥
 away_late starts place low vars t [] s c x later cells [] e f h = let g : [] ≡ (s, c, x) ∷ later = sym h ∙ e in let j : ⊥ = cc in j
 away_late starts place low vars t (d ∷ since) s c x later cells [] e f h = let g : [] ≡ d ∷ (since ++ (s, c, x) ∷ later) = sym h ∙ e in let j : ⊥ = cc in j
 away_late starts place low vars t since s c x later cells ((q, Arrive p, batch) ∷ moves) e f h =

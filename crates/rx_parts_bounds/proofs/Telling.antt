@@ -3,7 +3,11 @@ use Rattle.std.proofs.Common.{◌≡◌, ◌≢◌, ◌⊎◌, ℕ, suc, ◌+◌
 use Rattle.std.specs.List.{cons_option}
 use Rattle.std.proofs.lemmas.Bool.{eqb-true, eq-eqb, ne_eqb, true≢false}
 use Rattle.std.proofs.lemmas.List.Sums.{sum_by-cons}
-use Rattle.rx_rules.proofs.Common.{PlaceId, TaskId, Fault, Term, Vars, Done, does, granted, child, Tree, Allowed, made, AllAllowed, births, births_of, Reached, IsOlder, Starts, Cells, Moves, Birth, Plays, Begins, Tells, StartsSo, started_by, travels, brought, begun, vars_told, moves_from, birth_in, birth_from, FromOn}
+use Rattle.rx_rules.proofs.Common.{PlaceId, TaskId, Fault, Term, Vars, Done, does, granted, child, Tree, Allowed, made, AllAllowed, births, births_of, Reached, IsOlder, Starts, Cells, Moves, Birth, Plays, BeginsWithArrival, Tells, StartsSo, started_by, travels, brought, begun, vars_told, moves_from, birth_in, birth_from, FromOn}
+use Rattle.rx_rules.specs.declared.entries.Act.{Act}
+use Rattle.rx_rules.specs.declared.entries.Act.TheVariants.{At as Calls, Spawn, Arrive, End}
+use Rattle.rx_rules.specs.declared.entries.Entry.{Entry}
+use Rattle.rx_rules.specs.declared.entries.Entry.TheVariants.{Step, Root, Death, Join}
 use Rattle.rx_base.proofs.Elements.{get-within}
 use Rattle.rx_rules.specs.declared.entries.Act.{Act}
 use Rattle.rx_rules.specs.declared.entries.Act.TheVariants.{At as Calls, Spawn, Arrive, End}
@@ -13,7 +17,7 @@ use Rattle.rx_rules.specs.Plays as rules
 use Rattle.rx_rules.specs.Plays.{Fits}
 use Rattle.rx_rules.proofs.Inverting.{cells_from_low}
 use Rattle.rx_rules.proofs.Numbers.{next-made}
-use Rattle.rx_sound.proofs.Histories.{reached_now, dead-now}
+use Rattle.rx_tree_laws.proofs.Histories.{reached_now, dead-now}
 use Rattle.rx_runs.specs.Segments.{Stand}
 use Rattle.rx_runs.proofs.Sharing.{act_below}
 use Rattle.rx_runs.proofs.Wider.{SoFor}
@@ -82,7 +86,7 @@ next_ask n act last more rules.stops h = absurd (let f : ⊥ = cc in f)
 -- What a task has still to make, after n entries.
 
 pub data RestOf (starts : Starts) (a : Actor) (cells : Cells) (moves : Moves) : Type 0 where
-  away : a.phase ≡ Away → a.stand ≡ first_stand a.birth.low a.start → Begins starts a.birth.to true a.birth.low a.start.1 a.start.0 cells moves → RestOf starts a cells moves
+  away : a.phase ≡ Away → a.stand ≡ first_stand a.birth.low a.start → BeginsWithArrival starts a.birth.to true a.birth.low a.start.1 a.start.0 cells moves → RestOf starts a cells moves
   here : a.phase ≡ Present → Plays starts a.birth.to a.stand.low a.stand.vars a.stand.term a.stand.batch cells moves → RestOf starts a cells moves
   over : a.phase ≡ Over → cells ≡ [] → moves ≡ [] → RestOf starts a cells moves
 
@@ -108,7 +112,7 @@ pub record Going (starts : Starts) (n m : ℕ) (whole : Cells) (a : Actor) (cell
 -- and what one makes that is not yet born
 abbrev pub Unborn : Starts → ℕ → List Entry → ℕ → Cells → Type 0
 Unborn starts n es k cells =
-    (s : Term × Vars) → slice_get starts k ≡ Some s → Begins starts (birth_from n es k).to (travels (birth_from n es k)) (birth_from n es k).low s.1 s.0 cells (moves_from n es k)
+    (s : Term × Vars) → slice_get starts k ≡ Some s → BeginsWithArrival starts (birth_from n es k).to (travels (birth_from n es k)) (birth_from n es k).low s.1 s.0 cells (moves_from n es k)
 
 -- all tasks after n entries, where es are the entries that are left; `left` gives the events that are left
 pub record Now (starts : Starts) (n : ℕ) (whole : ℕ → Cells) (actors : List Actor) (left : ℕ → Cells) (es : List Entry) : Type 0 where
@@ -213,7 +217,7 @@ walk_below (local e w) = walk_below w
 walk_below {z = z} (stores {stamp = stamp} answer le tells b w) = (let r : stamp ≤ z.low = walk_up w in omega arith, walk_below w)
 
 -- no event of a task is before its birth, and none before its arrival
-begins_from : (starts : Starts) (place : PlaceId) (b : Bool) (n low : ℕ) (vars : Vars) (t : Term) (cells : Cells) (moves : Moves) → suc n ≤ low → NotBefore n moves → Begins starts place b low vars t cells moves → FromOn (suc n) cells
+begins_from : (starts : Starts) (place : PlaceId) (b : Bool) (n low : ℕ) (vars : Vars) (t : Term) (cells : Cells) (moves : Moves) → suc n ≤ low → NotBefore n moves → BeginsWithArrival starts place b low vars t cells moves → FromOn (suc n) cells
 begins_from starts place false n low vars t cells moves le ahead h = from_less (suc n) low le cells (cells_from_low h)
 begins_from starts place true n low vars t cells [] le ahead h = subst (FromOn (suc n)) (sym h) tt
 begins_from starts place true n low vars t cells ((q, Arrive p, batch) ∷ moves) le ahead h = let l : n ≤ q = ahead in from_less (suc n) (suc q) (omega arith) cells (cells_from_low h.1)
@@ -262,11 +266,11 @@ unchanged n k i before after a b t act batch (goes_on u bct z it is by there wal
 unchanged n k i before after a b t act batch (leaves u faults z it is by there walks low done) e o = absurd (let f : Step u (End faults) z.batch ≡ Step t act batch = sym is ∙ e in let g : u ≡ t = cc in o (ap (λ (v : TaskId). v.0) (sym g) ∙ it))
 
 -- the rest of a new task
-rest_new : (starts : Starts) (n : ℕ) (i : LedgerItem) (from to : PlaceId) (z : Stand) (cells : Cells) (moves : Moves) → Begins starts to (not (from.0 == to.0)) (suc n) z.vars (child z.term) cells moves → RestOf starts (actor_born n i from to z) cells moves
+rest_new : (starts : Starts) (n : ℕ) (i : LedgerItem) (from to : PlaceId) (z : Stand) (cells : Cells) (moves : Moves) → BeginsWithArrival starts to (not (from.0 == to.0)) (suc n) z.vars (child z.term) cells moves → RestOf starts (actor_born n i from to z) cells moves
 rest_new starts n i from to z cells moves h = either (from.0 == to.0) refl where
   either : (b : Bool) → (from.0 == to.0) ≡ b → RestOf starts (actor_born n i from to z) cells moves
-  either true e = here (ap (λ b. cond b Present Away) e) (subst (λ (b : Bool). Begins starts to (not b) (suc n) z.vars (child z.term) cells moves) e h)
-  either false e = away (ap (λ b. cond b Present Away) e) refl (subst (λ (b : Bool). Begins starts to (not b) (suc n) z.vars (child z.term) cells moves) e h)
+  either true e = here (ap (λ b. cond b Present Away) e) (subst (λ (b : Bool). BeginsWithArrival starts to (not b) (suc n) z.vars (child z.term) cells moves) e h)
+  either false e = away (ap (λ b. cond b Present Away) e) refl (subst (λ (b : Bool). BeginsWithArrival starts to (not b) (suc n) z.vars (child z.term) cells moves) e h)
 
 -- After the entry of a task, where it is told what that makes of the task itself and what a new task starts with.
 now_step : (starts : Starts) (n : ℕ) (whole : ℕ → Cells) (T : Tree) (actors next : List Actor) (left : ℕ → Cells) (i : LedgerItem) (t : TaskId) (act : Act) (batch : List (List ℕ)) (es : List Entry) (later : Cells) → i.entry ≡ Step t act batch → i.seat ≡ [] → i.holder ≡ [] → Numbered (length actors) (Step t act batch) → t.0 < length actors → ItemMakes n actors i next → ((b : Actor) → slice_get next t.0 ≡ Some b → Going starts (suc n) (suc n) (whole t.0) b later (moves_from (suc n) es t.0)) → ((k : ℕ) (b : Actor) → slice_get actors k ≡ None → slice_get next k ≡ Some b → slice_get starts k ≡ Some b.start) → Now starts n whole actors left (Step t act batch ∷ es) → Now starts (suc n) whole next (left_after t later left) es
@@ -295,8 +299,8 @@ now_step starts n whole T actors next left i t act batch es later entry no_seat 
       let birth : birth_from n (Step t act batch ∷ es) k ≡ record { from = c.from; to = c.to; low = suc n } = ap (λ (o : Option Birth). birth_or o (birth_from (suc n) es k)) born_now in
       let start : slice_get starts k ≡ Some (child c.stand.term, c.stand.vars) = starts_so k b gone got ∙ ap (λ (v : Actor). Some v.start) c.is_it in
       let b1 = u.0 (child c.stand.term, c.stand.vars) start in
-      let b2 : Begins starts c.to (not (c.from.0 == c.to.0)) (suc n) c.stand.vars (child c.stand.term) (left k) (moves_from n (Step t act batch ∷ es) k) = subst (λ (v : Birth). Begins starts v.to (travels v) v.low c.stand.vars (child c.stand.term) (left k) (moves_from n (Step t act batch ∷ es) k)) birth b1 in
-      let b3 : Begins starts c.to (not (c.from.0 == c.to.0)) (suc n) c.stand.vars (child c.stand.term) (left k) (moves_from (suc n) es k) = subst (λ (v : Moves). Begins starts c.to (not (c.from.0 == c.to.0)) (suc n) c.stand.vars (child c.stand.term) (left k) v) (other_next n t act batch es k o) b2 in
+      let b2 : BeginsWithArrival starts c.to (not (c.from.0 == c.to.0)) (suc n) c.stand.vars (child c.stand.term) (left k) (moves_from n (Step t act batch ∷ es) k) = subst (λ (v : Birth). BeginsWithArrival starts v.to (travels v) v.low c.stand.vars (child c.stand.term) (left k) (moves_from n (Step t act batch ∷ es) k)) birth b1 in
+      let b3 : BeginsWithArrival starts c.to (not (c.from.0 == c.to.0)) (suc n) c.stand.vars (child c.stand.term) (left k) (moves_from (suc n) es k) = subst (λ (v : Moves). BeginsWithArrival starts c.to (not (c.from.0 == c.to.0)) (suc n) c.stand.vars (child c.stand.term) (left k) v) (other_next n t act batch es k o) b2 in
       let g : Going starts (suc n) (suc n) (whole k) (actor_born n i c.from c.to c.stand) (left k) (moves_from (suc n) es k) =
       record { rest = rest_new starts n i c.from c.to c.stand (left k) (moves_from (suc n) es k) b3; parts = sym u.1; low = omega arith; named = tt; ahead = moves_after (suc n) es k; seat = no_seat; holder = no_holder } in
       subst (λ (v : Cells). Going starts (suc n) (suc n) (whole k) b v (moves_from (suc n) es k)) (sym (left_other t later left k o))
@@ -324,9 +328,9 @@ now_step starts n whole T actors next left i t act batch es later entry no_seat 
       let u = now.unborn k out in
       let none : birth_in n k (Step t act batch) ≡ None = birth_none n k (length actors) (Step t act batch) num (inr (omega (arith, size, size_is, le))) in
       let birth : birth_from n (Step t act batch ∷ es) k ≡ birth_from (suc n) es k = ap (λ (o : Option Birth). birth_or o (birth_from (suc n) es k)) none in (
-        λ s got. subst (λ (v : Cells). Begins starts (birth_from (suc n) es k).to (travels (birth_from (suc n) es k)) (birth_from (suc n) es k).low s.1 s.0 v (moves_from (suc n) es k)) (sym (left_other t later left k o))
-            (subst (λ (v : Moves). Begins starts (birth_from (suc n) es k).to (travels (birth_from (suc n) es k)) (birth_from (suc n) es k).low s.1 s.0 (left k) v) (other_next n t act batch es k o)
-            (subst (λ (v : Birth). Begins starts v.to (travels v) v.low s.1 s.0 (left k) (moves_from n (Step t act batch ∷ es) k)) birth (u.0 s got))),
+        λ s got. subst (λ (v : Cells). BeginsWithArrival starts (birth_from (suc n) es k).to (travels (birth_from (suc n) es k)) (birth_from (suc n) es k).low s.1 s.0 v (moves_from (suc n) es k)) (sym (left_other t later left k o))
+            (subst (λ (v : Moves). BeginsWithArrival starts (birth_from (suc n) es k).to (travels (birth_from (suc n) es k)) (birth_from (suc n) es k).low s.1 s.0 (left k) v) (other_next n t act batch es k o)
+            (subst (λ (v : Birth). BeginsWithArrival starts v.to (travels v) v.low s.1 s.0 (left k) (moves_from n (Step t act batch ∷ es) k)) birth (u.0 s got))),
         left_other t later left k o ∙ u.1,
       )
 
@@ -426,13 +430,13 @@ step_end starts n whole T actors left t act batch es a num got there g r (faults
     }
 
 -- what one makes first that has yet to arrive
-away_first : (starts : Starts) (place : PlaceId) (low : ℕ) (vars : Vars) (t : Term) (cells : Cells) (n : ℕ) (act : Act) (batch : List (List ℕ)) (more : Moves) → Begins starts place true low vars t cells ((n, act, batch) ∷ more) → (p : PlaceId) × (act ≡ Arrive p) × (batch ≡ []) × Plays starts place (suc n) vars t [] cells more
+away_first : (starts : Starts) (place : PlaceId) (low : ℕ) (vars : Vars) (t : Term) (cells : Cells) (n : ℕ) (act : Act) (batch : List (List ℕ)) (more : Moves) → BeginsWithArrival starts place true low vars t cells ((n, act, batch) ∷ more) → (p : PlaceId) × (act ≡ Arrive p) × (batch ≡ []) × Plays starts place (suc n) vars t [] cells more
 away_first starts place low vars t cells n (Arrive p) batch more h = (p, refl, h.0, h.1)
 away_first starts place low vars t cells n _ batch more h = absurd h
 
 step_of : (starts : Starts) (n : ℕ) (whole : ℕ → Cells) (T : Tree) (actors : List Actor) (left : ℕ → Cells) (t : TaskId) (act : Act) (batch : List (List ℕ)) (es : List Entry) (a : Actor) → Numbered (length actors) (Step t act batch) → slice_get actors t.0 ≡ Some a → (g : Going starts n n (whole t.0) a (left t.0) (moves_from n (Step t act batch ∷ es) t.0)) → RestOf starts a (left t.0) (moves_from n (Step t act batch ∷ es) t.0) → Now starts n whole actors left (Step t act batch ∷ es) → Stepped starts n whole actors (Step t act batch) es
 step_of starts n whole T actors left t act batch es a num got g (away e fresh h) now =
-    arrival (away_first starts a.birth.to a.birth.low a.start.1 a.start.0 (left t.0) n act batch (moves_from (suc n) es t.0) (subst (λ (v : Moves). Begins starts a.birth.to true a.birth.low a.start.1 a.start.0 (left t.0) v) (own_next n t act batch es t.0 refl) h))
+    arrival (away_first starts a.birth.to a.birth.low a.start.1 a.start.0 (left t.0) n act batch (moves_from (suc n) es t.0) (subst (λ (v : Moves). BeginsWithArrival starts a.birth.to true a.birth.low a.start.1 a.start.0 (left t.0) v) (own_next n t act batch es t.0 refl) h))
   where
     arrival : (p : PlaceId) × (act ≡ Arrive p) × (batch ≡ []) × Plays starts a.birth.to (suc n) a.start.1 a.start.0 [] (left t.0) (moves_from (suc n) es t.0) → Stepped starts n whole actors (Step t act batch) es
     arrival (p, is, none, plays) =

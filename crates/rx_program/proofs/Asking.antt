@@ -13,7 +13,7 @@ use Rattle.rx_words.specs.declared.command.PickWords.{PickWords}
 use Rattle.rx_program.specs.declared.status.Status.{Status}
 use Rattle.rx_program.specs.declared.status.Status.TheVariants.{Done}
 use Rattle.rx_answers.specs.declared.answers.Question.TheVariants as questions
-use Rattle.rx_program.specs.Top.{takes_pair, WasScript, IsGood, IsGoodPair, CanDo, IsTrace, IsLiveText, IsCount, IsAnswered, IsOutcome, work_line}
+use Rattle.rx_program.specs.Top.{takes_pair, WasScript, IsGoodScript, IsGoodPair, CanDo, IsTrace, IsLiveText, IsCount, IsAnswered, IsOutcome, work_line}
 use Rattle.rx_program.specs.Inside.Takes.{takes}
 
 -- the source was read as a script, for which a shape stands
@@ -21,7 +21,7 @@ abbrev pub Told : Option (List ℕ) → Option (List ℕ) → Shape → Type 0
 Told old new shape = (code : Block) × Stands shape code × WasScript old new code
 
 -- bytes that a step can do
-pub step-can : (setup : Setup) (picks : PickWords) (a : Asked) (left : Option (List ℕ)) → IsAsked (commands.Step setup picks) a → CanDo a left → (bytes : List ℕ) × (left ≡ Some bytes) × IsGood bytes
+pub step-can : (setup : Setup) (picks : PickWords) (a : Asked) (left : Option (List ℕ)) → IsAsked (commands.Step setup picks) a → CanDo a left → (bytes : List ℕ) × (left ≡ Some bytes) × IsGoodScript bytes
 step-can setup picks (Step U s) left is can = can
 step-can setup picks (Gen n U s) left is can = absurd is
 step-can setup picks Check left is can = absurd is
@@ -30,7 +30,7 @@ step-can setup picks Span left is can = absurd is
 step-can setup picks (Live U n watch) left is can = absurd is
 step-can setup picks (BadWord k) left is can = absurd is
 
-pub check-can : (a : Asked) (left : Option (List ℕ)) → IsAsked commands.Check a → CanDo a left → (bytes : List ℕ) × (left ≡ Some bytes) × IsGood bytes
+pub check-can : (a : Asked) (left : Option (List ℕ)) → IsAsked commands.Check a → CanDo a left → (bytes : List ℕ) × (left ≡ Some bytes) × IsGoodScript bytes
 check-can (Step U s) left is can = absurd is
 check-can (Gen n U s) left is can = absurd is
 check-can Check left is can = can
@@ -72,7 +72,7 @@ check-done (Live U n watch) old new shape text status is w made = absurd is
 check-done (BadWord k) old new shape text status is w made = absurd is
 
 -- bytes that `live` can do
-pub live-can : (live : LiveWords) (a : Asked) (left : Option (List ℕ)) → IsLiveCommand live a → CanDo a left → (bytes : List ℕ) × (left ≡ Some bytes) × IsGood bytes
+pub live-can : (live : LiveWords) (a : Asked) (left : Option (List ℕ)) → IsLiveCommand live a → CanDo a left → (bytes : List ℕ) × (left ≡ Some bytes) × IsGoodScript bytes
 live-can live (Step U s) left is can = absurd is
 live-can live (Gen n U s) left is can = absurd is
 live-can live Check left is can = absurd is

@@ -155,7 +155,7 @@ IsOutcome (Live U workers watch) old new text status = (code : Block) × WasScri
 IsOutcome (BadWord k) old new text status = ⊥
 
 -- These bytes are a script that meets the rules.
-pub record IsGood (bytes : List ℕ) : Type 0 where
+pub record IsGoodScript (bytes : List ℕ) : Type 0 where
   pub short : length bytes ≤ 65536
   pub code : Block
   pub script : IsScript bytes code
@@ -173,12 +173,12 @@ pub record IsGoodPair (bytes : List ℕ) : Type 0 where
 -- what is asked for can be done with a source that has these bytes: `gen` needs none, `verify` and `span` need such a pair,
 -- and the others a script that meets the rules
 abbrev pub CanDo : Asked → Option (List ℕ) → Type 0
-CanDo (Step U source) left = (bytes : List ℕ) × (left ≡ Some bytes) × IsGood bytes
+CanDo (Step U source) left = (bytes : List ℕ) × (left ≡ Some bytes) × IsGoodScript bytes
 CanDo (Gen size U seed) left = Unit {0}
-CanDo Check left = (bytes : List ℕ) × (left ≡ Some bytes) × IsGood bytes
+CanDo Check left = (bytes : List ℕ) × (left ≡ Some bytes) × IsGoodScript bytes
 CanDo Verify left = (bytes : List ℕ) × (left ≡ Some bytes) × IsGoodPair bytes
 CanDo Span left = (bytes : List ℕ) × (left ≡ Some bytes) × IsGoodPair bytes
-CanDo (Live U workers watch) left = (bytes : List ℕ) × (left ≡ Some bytes) × IsGood bytes
+CanDo (Live U workers watch) left = (bytes : List ℕ) × (left ≡ Some bytes) × IsGoodScript bytes
 CanDo (BadWord k) left = ⊥
 
 -- a status of a source from which no text was made

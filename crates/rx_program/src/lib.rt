@@ -5,7 +5,7 @@
 //! of a run of it, that nothing was released early in it, that its losses are exact and that the order of statements was kept; of
 //! `verify` and `span` `Done` comes exactly where the trace is one of a whole run of the script. `rx10_step` has the commands that start
 //! no thread, takes no runtime and always returns. `laws` says that outcomes are determined. It stands on rx_words, rx_script, rx_check,
-//! rx_machine, rx_live, rx_gen, rx_counts, rx_history, rx_trace and rx_answers, and on the laws of rx_runs and rx_laws. The program
+//! rx_machine, rx_live, rx_gen, rx_counts, rx_history, rx_trace and rx_answers, and on the laws of rx_runs and rx_history_laws. The program
 //! uses `rx10` and `Status`.
 #![tactic(auto)]
 

@@ -16,7 +16,7 @@ use rx_check::{Program, checked};
 use rx_counts::CountLedger;
 use rx_gen::{counts, generate, put_counts};
 use rx_history::{Entry, History, Journals, Setup};
-use rx_laws::{run_is_exact, run_is_not_early, run_is_ordered};
+use rx_history_laws::{run_is_exact, run_is_not_early, run_is_ordered};
 use rx_live::{run_live, run_watched};
 use rx_machine::{ListPicks, Machine, Picks, SeedPicks};
 use rx_monitor::put_watch;

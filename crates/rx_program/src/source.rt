@@ -5,7 +5,7 @@ ghost use Rattle.rx_base.specs.Outside.{Rose};
 ghost use Rattle.rx_rules.specs.Code.{Block};
 ghost use Rattle.rx_syntax.specs.Shape.{Stands};
 ghost use Rattle.rx_program.specs.declared.status.Status.TheVariants.{Syntax, Bad, Pair, BadTrace, TooLong, ReadFault, NoMemory as NoRoom};
-ghost use Rattle.rx_program.specs.Top.{WasRead, WasScript, IsGood, IsUnmade};
+ghost use Rattle.rx_program.specs.Top.{WasRead, WasScript, IsGoodScript, IsUnmade};
 ghost use Rattle.rx_program.specs.Refusals.{GaveNoScript, GaveBadScript, GaveTooMuch, TookNoMore};
 
 use crate::outside::{ReadStop, read_all};
@@ -51,7 +51,7 @@ pub(crate) fn read_program<S: Source>(alloc: Global, input: &mut S) -> Result<Pr
     ensures too_long { IsErrOf result TooLong → GaveTooMuch false (S.left input.old) (S.left input.new) }
     ensures read_fault { IsErrOf result ReadFault → Rose (S.faults input.old) (S.faults input.new) }
     ensures taken { TookNoMore false (S.left input.old) (S.left input.new) }
-    ensures complete { (bytes : List ℕ) → S.left input.old ≡ Some bytes → IsGood bytes
+    ensures complete { (bytes : List ℕ) → S.left input.old ≡ Some bytes → IsGoodScript bytes
         → (Rose (S.faults input.old) (S.faults input.new) → ⊥) → IfErr result (λ status. status ≡ NoRoom) }
     ensures later { S.faults input.old ≤ S.faults input.new }
 {

@@ -10,7 +10,7 @@ ghost use Rattle.rx_reading.specs.Inside.Machine.{Untitled, Titled, Sized, Liste
 ghost use Rattle.rx_reading.specs.Inside.Machine.{begins_journal, event_line_of, read_line, told_there};
 ghost use Rattle.rx_text.specs.Numbers.{natural_text};
 ghost use Rattle.rx_fields.specs.Inside.Readers.{behind};
-ghost use Rattle.rx_reading.specs.Inside.Stages.{state_of, IsReady};
+ghost use Rattle.rx_reading.specs.Inside.Stages.{state_of, PlacesFit};
 
 use crate::entry_reader::entry;
 use crate::event_reader::event;
@@ -114,7 +114,7 @@ fn begins_with_j(line: &[u8]) -> bool
 
 // Reads one line more, and answers whether it may come next.
 pub(crate) fn read_next(alloc: Global, stage: &mut Stage, line: &[u8]) -> Result<bool, NoMemory>
-    requires { IsReady stage.old }
+    requires { PlacesFit stage.old }
     ensures good { IfOk result (λ good. good ≡ true → read_line (state_of stage.old) line.now ≡ Some (state_of stage.new)) }
     ensures bad { IfOk result (λ good. good ≡ false → read_line (state_of stage.old) line.now ≡ None) }
 {
@@ -128,7 +128,7 @@ pub(crate) fn read_next(alloc: Global, stage: &mut Stage, line: &[u8]) -> Result
 
 // Whether the line has to be an entry or an event.
 fn is_told(stage: &Stage, line: &[u8]) -> bool
-    requires { IsReady stage.now }
+    requires { PlacesFit stage.now }
     ensures { result ≡ told_there (state_of stage.now) line.now }
 {
     match stage {
@@ -148,7 +148,7 @@ fn is_told(stage: &Stage, line: &[u8]) -> bool
 
 // The stage that a line more makes of this one takes its place; answers whether the line may come next.
 fn changed(alloc: Global, stage: &mut Stage, line: &[u8]) -> Result<bool, NoMemory>
-    requires ready { IsReady stage.old }
+    requires ready { PlacesFit stage.old }
     requires other { told_there (state_of stage.old) line.now ≡ false }
     ensures good { IfOk result (λ good. good ≡ true → read_line (state_of stage.old) line.now ≡ Some (state_of stage.new)) }
     ensures bad { IfOk result (λ good. good ≡ false → read_line (state_of stage.old) line.now ≡ None) }
@@ -166,7 +166,7 @@ fn changed(alloc: Global, stage: &mut Stage, line: &[u8]) -> Result<bool, NoMemo
 // Adds the entry or the event that a line has to be, and answers whether it is one.
 #[tactic(auto, using(crate::proofs::Told::no_first_journal, crate::proofs::Told::no_next_journal, crate::proofs::Told::no_end))]
 fn added(alloc: Global, stage: &mut Stage, line: &[u8]) -> Result<bool, NoMemory>
-    requires ready { IsReady stage.old }
+    requires ready { PlacesFit stage.old }
     requires told { told_there (state_of stage.old) line.now ≡ true }
     ensures good { IfOk result (λ good. good ≡ true → read_line (state_of stage.old) line.now ≡ Some (state_of stage.new)) }
     ensures bad { IfOk result (λ good. good ≡ false → read_line (state_of stage.old) line.now ≡ None) }
@@ -231,7 +231,7 @@ fn event_added(
 
 // The stage after a line that is to be no entry and no event.
 fn next_stage(alloc: Global, stage: Stage, line: &[u8]) -> Result<Option<Stage>, NoMemory>
-    requires ready { IsReady stage }
+    requires ready { PlacesFit stage }
     requires other { told_there (state_of stage) line.now ≡ false }
     ensures { IfOk result (λ next. option_map state_of next ≡ read_line (state_of stage) line.now) }
 {

@@ -21,8 +21,8 @@ pub use Rattle.rx_rules.specs.Fold.{AllAllowed, births, births_of, fold_from, op
 pub use Rattle.rx_rules.specs.Inversions.{BeginsNoRun, FromOn, UpTo, acts_of, events_of_task}
 pub use Rattle.rx_rules.specs.Laws.{TaskBirth, born_so_far, has_ended, has_landed, hit_at, is_birth_of, is_born, is_on, links, until, walk}
 pub use Rattle.rx_rules.specs.Order.{InOrder, before_inside, comes_before, is_before_in, is_kept, is_kept_in, own_path, told, told_in}
-pub use Rattle.rx_rules.specs.Picked.{Comes, Game, Goes, IsPicked, Player, Turn, acted, arrives, child_of, closed_by, due as planned, enabled, is_enabled, local, more, moves, none, root, start_game, stays, stores, tree_in, turns, used_after, with_entry}
-pub use Rattle.rx_rules.specs.Plays.{Begins, Birth, Cells, EachPlays, Moves, Played, Plays, Starts, StartsSo, Tells, asks, begun, birth_from, birth_in, birth_of, brought, cell_of, ends, journal_at, move_of, moves_from, raised_by, started_by, stops, travels, vars_told}
+pub use Rattle.rx_rules.specs.Picked.{MadeByTurns, Game, RunsWithoutEntry, IsPicked, Player, Turn, acted, arrives, child_of, closed_by, due as planned, enabled, is_enabled, local, more, moves, none, root, start_game, stays, stores, tree_in, turns, used_after, with_entry}
+pub use Rattle.rx_rules.specs.Plays.{BeginsWithArrival, Birth, Cells, EachPlays, Moves, Played, Plays, Starts, StartsSo, Tells, asks, begun, birth_from, birth_in, birth_of, brought, cell_of, ends, journal_at, move_of, moves_from, raised_by, started_by, stops, travels, vars_told}
 pub use Rattle.rx_rules.specs.Reached.{IsOlder, Reached, acts, dies, joins, opens}
 pub use Rattle.rx_rules.specs.Run.{AllJournals, AreJoins, AreKills, Ascends, AtHome, ClosesAt, ComesAfter, EndsWithRoot, Event, Folds, Given, IsDue, IsRun, Joined, JournalOk, NoRoot, NoneDue, NotFalling, PlanKept, Proper, Spares, close_in, death_number, events, in_all, plan_of, put_in, rest_of, stamp_of}
 pub use Rattle.rx_rules.specs.Store.{IsLeastFree, IsStoreRun, Live, MayCell, Reads, Refuses, State, after_cell, block_of, fits, is_apart, is_block, is_index, opening_state, set_word, word_at}

@@ -61,25 +61,25 @@ abbrev pub enabled : Tree → List Task
 enabled T = reverse (filter (is_enabled T) T.tasks)
 
 -- nothing is due, and the pick k takes this enabled task
-abbrev pub Takes : Given → ℕ → Game → Task → Type 0
-Takes U k G x =
+abbrev pub PickTakes : Given → ℕ → Game → Task → Type 0
+PickTakes U k G x =
     NoneDue (length G.entries) G.plan
     × (slice_get (enabled (tree_in U G)) (k % length (enabled (tree_in U G))) ≡ Some x)
 
 -- local steps and store calls of a task at a place, in a history of n entries
-pub data Goes (heap n : ℕ) (t : TaskId) (here : PlaceId)
+pub data RunsWithoutEntry (heap n : ℕ) (t : TaskId) (here : PlaceId)
     : Player → State → List PlaceEvent → Player → State → List PlaceEvent → Type 0 where
-  stays : {p : Player} {S : State} {j : List PlaceEvent} → Goes heap n t here p S j p S j
+  stays : {p : Player} {S : State} {j : List PlaceEvent} → RunsWithoutEntry heap n t here p S j p S j
   local : {p q : Player} {S Z : State} {j k : List PlaceEvent} {after : Term} {left : Vars} →
       does p.vars here.0 p.term ≡ Local after left →
-      Goes heap n t here (record { term = after; vars = left; batch = begun p.term p.batch }) S j q Z k →
-      Goes heap n t here p S j q Z k
+      RunsWithoutEntry heap n t here (record { term = after; vars = left; batch = begun p.term p.batch }) S j q Z k →
+      RunsWithoutEntry heap n t here p S j q Z k
   stores : {p q : Player} {S Z : State} {j k : List PlaceEvent} (cell : Cell) (x : List ℕ) (a : Answer) →
       Tells (does p.vars here.0 p.term) here cell a → begins p.term ≡ Some x → MayCell heap S cell →
-      Goes heap n t here
+      RunsWithoutEntry heap n t here
       (record { term = answered a p.term; vars = vars_after a p.vars; batch = begun p.term p.batch })
       (after_cell S cell) (j ++ Did t n cell x ∷ []) q Z k →
-      Goes heap n t here p S j q Z k
+      RunsWithoutEntry heap n t here p S j q Z k
 
 -- the player after its act
 abbrev pub acted : PlaceId → Player → Act → Player
@@ -109,11 +109,11 @@ pub data Turn (U : Given) (k : ℕ) : Game → Bool → Game → Type 0 where
   due : {G : Game} (e : Entry) → IsDue (length G.entries) e G.plan →
       Turn U k G false (record (with_entry G e) { journals = closed_by G e; plan = rest_of G.plan })
   arrives : {G : Game} (x : Task) (p : PlaceId) →
-      Takes U k G x → Allowed (tree_in U G) (Step x.number (Arrive p) []) →
+      PickTakes U k G x → Allowed (tree_in U G) (Step x.number (Arrive p) []) →
       Turn U k G true (with_entry G (Step x.number (Arrive p) []))
   moves : {G : Game} (x : Task) (here : PlaceId) (p q : Player) (S Z : State) (j : List PlaceEvent) (act : Act) →
-      Takes U k G x → x.place ≡ At here → slice_get G.players x.number.0 ≡ Some p → slice_get G.stores here.0 ≡ Some S →
-      Goes U.heap (length G.entries) x.number here p S (journal_at G.journals here.0) q Z j →
+      PickTakes U k G x → x.place ≡ At here → slice_get G.players x.number.0 ≡ Some p → slice_get G.stores here.0 ≡ Some S →
+      RunsWithoutEntry U.heap (length G.entries) x.number here p S (journal_at G.journals here.0) q Z j →
       Fits here q.term (does q.vars here.0 q.term) act → Allowed (tree_in U G) (Step x.number act q.batch) →
       Turn U k G true (record (with_entry G (Step x.number act q.batch)) {
         players = slice_set G.players x.number.0 (acted here q act) ++ child_of q act;
@@ -122,8 +122,8 @@ pub data Turn (U : Given) (k : ℕ) : Game → Bool → Game → Type 0 where
       })
   ends : {G : Game} (x : Task) (here : PlaceId) (p q : Player) (S Z : State) (j : List PlaceEvent)
       (faults : List Fault) →
-      Takes U k G x → x.place ≡ At here → slice_get G.players x.number.0 ≡ Some p → slice_get G.stores here.0 ≡ Some S →
-      Goes U.heap (length G.entries) x.number here p S (journal_at G.journals here.0) q Z j →
+      PickTakes U k G x → x.place ≡ At here → slice_get G.players x.number.0 ≡ Some p → slice_get G.stores here.0 ≡ Some S →
+      RunsWithoutEntry U.heap (length G.entries) x.number here p S (journal_at G.journals here.0) q Z j →
       does q.vars here.0 q.term ≡ Done faults → Allowed (tree_in U G) (Step x.number (End faults) q.batch) →
       Turn U k G true (record (with_entry G (Step x.number (End faults) q.batch)) {
         journals = slice_set G.journals here.0 j;
@@ -134,9 +134,9 @@ pub data Turn (U : Given) (k : ℕ) : Game → Bool → Game → Type 0 where
       Turn U k G false (with_entry G (Root lost masked thrown))
 
 -- a game that turns have made, whatever the picks
-pub data Comes (code : Block) (U : Given) : Game → Type 0 where
-  opens : Comes code U (start_game code U)
-  turns : {G G' : Game} {k : ℕ} {used : Bool} → Comes code U G → NoRoot G.entries → Turn U k G used G' → Comes code U G'
+pub data MadeByTurns (code : Block) (U : Given) : Game → Type 0 where
+  opens : MadeByTurns code U (start_game code U)
+  turns : {G G' : Game} {k : ℕ} {used : Bool} → MadeByTurns code U G → NoRoot G.entries → Turn U k G used G' → MadeByTurns code U G'
 
 -- the number of picks used after a turn
 abbrev pub used_after : Bool → ℕ → ℕ

@@ -113,12 +113,12 @@ pub data Plays (starts : List (Term × Vars)) (here : PlaceId)
   stops : {low : ℕ} {vars : Vars} {t : Term} {batch : List (List ℕ)} → Plays starts here low vars t batch [] []
 
 -- where a task travels, its arrival comes first
-abbrev pub Begins : Starts → PlaceId → Bool → ℕ → Vars → Term → Cells → Moves → Type 0
-Begins starts here false low vars t cells moves = Plays starts here low vars t [] cells moves
-Begins starts here true low vars t cells [] = cells ≡ []
-Begins starts here true low vars t cells ((n, Arrive p, batch) ∷ moves) =
+abbrev pub BeginsWithArrival : Starts → PlaceId → Bool → ℕ → Vars → Term → Cells → Moves → Type 0
+BeginsWithArrival starts here false low vars t cells moves = Plays starts here low vars t [] cells moves
+BeginsWithArrival starts here true low vars t cells [] = cells ≡ []
+BeginsWithArrival starts here true low vars t cells ((n, Arrive p, batch) ∷ moves) =
     (batch ≡ []) × Plays starts here (suc n) vars t [] cells moves
-Begins starts here true low vars t cells _ = ⊥
+BeginsWithArrival starts here true low vars t cells _ = ⊥
 
 -- Reading a history.
 
@@ -172,7 +172,7 @@ travels b = not (b.from.0 == b.to.0)
 abbrev pub EachPlays : Starts → List Entry → List (List PlaceEvent) → ℕ → Starts → Type 0
 EachPlays starts es js n [] = Unit {0}
 EachPlays starts es js n (s ∷ more) =
-    Begins starts (birth_of es n).to (travels (birth_of es n)) (birth_of es n).low s.1 s.0
+    BeginsWithArrival starts (birth_of es n).to (travels (birth_of es n)) (birth_of es n).low s.1 s.0
     (filter_map (cell_of n) (journal_at js (birth_of es n).to.0))
     (moves_from 0 es n)
     × EachPlays starts es js (suc n) more

@@ -1,15 +1,15 @@
 -- Games that turns have made, whatever the picks.
 use Rattle.std.proofs.Common.{◌≡◌, ℕ, suc, ◌+◌, ◌*◌, ◌≤◌, List, [], ◌∷◌, ◌++◌, length, refl, ◌∙◌, sym, arith}
 use Rattle.std.proofs.lemmas.List.Sums.{sum_by-cons}
+use Rattle.rx_rules.proofs.Common.{Block, work, Empty, items, Tree, made, births, births_of, fold_from, opening, Given, Proper, plan_of, NoRoot, Game, MadeByTurns, turns, start_game, tree_in}
 use Rattle.rx_rules.specs.declared.entries.Act.TheVariants.{Open, At as Calls, Spawn, Arrive, Wait, Release, End, Print, Census}
 use Rattle.rx_rules.specs.declared.entries.Entry.{Entry}
 use Rattle.rx_rules.specs.declared.entries.Entry.TheVariants.{Step, Root, Death, Join}
-use Rattle.rx_rules.proofs.Common.{Block, work, Empty, items, Tree, made, births, births_of, fold_from, opening, Given, Proper, plan_of, NoRoot, Game, Comes, turns, start_game, tree_in}
 use Rattle.rx_rules.specs.Picked.{opens}
 use Rattle.rx_rules.proofs.Numbers.{scope-after_end, next-tree}
 use Rattle.rx_runs.specs.Costs.{cost}
 use Rattle.rx_runs.specs.Games.{GameOk, PlayerSo}
-use Rattle.rx_runs.specs.Coming.{GamesCome, GoesOn}
+use Rattle.rx_runs.specs.Coming.{GamesCome, GamesGoOn}
 use Rattle.rx_runs.specs.Framing.{TermsFit}
 use Rattle.rx_runs.proofs.Fitting.{fits_keeps, starts_fit}
 use Rattle.rx_runs.proofs.Going.{next_of}
@@ -71,7 +71,7 @@ stood (Root lost masked thrown ∷ es) e h = absurd h
 stood (Death d ∷ es) e h = stood es e h
 stood (Join p ∷ es) e h = stood es e h
 
-came : (code : Block) (U : Given) (G : Game) → Proper U → Comes code U G → NoRoot G.entries → GameOk code U G × TermsFit (tree_in U G) G.players × (total G ≤ total (start_game code U))
+came : (code : Block) (U : Given) (G : Game) → Proper U → MadeByTurns code U G → NoRoot G.entries → GameOk code U G × TermsFit (tree_in U G) G.players × (total G ≤ total (start_game code U))
 came code U G proper opens h = (starts_ok code U proper, starts_fit code U, omega arith)
 came code U G' proper (turns {G = G} c free t) h =
     let before = came code U G proper c free in
@@ -79,7 +79,7 @@ came code U G' proper (turns {G = G} c free t) h =
     let less : total G' ≤ total G = turn_pays code U _ _ G G' before.0 t h in
     let most : total G ≤ total (start_game code U) = before.2 in (ok, fits_keeps code U _ _ G G' before.0 before.1 t h, omega (arith, less, most))
 
-pub goes_on : GoesOn
+pub goes_on : GamesGoOn
 goes_on code U G proper c h k =
     let was = came code U G proper c h in
     let t = next_of code U G was.0 was.1 (comes_knowing code U G c) k in

@@ -12,12 +12,12 @@ use Rattle.rx_rules.specs.declared.entries.Entry.{Entry}
 use Rattle.rx_rules.specs.declared.entries.Entry.TheVariants.{Step, Root, Death, Join}
 use Rattle.rx_rules.specs.Laws.{ends_task}
 use Rattle.rx_rules.proofs.Numbers.{next-tree}
-use Rattle.rx_sound.specs.Sound.{Each, TaskFits, Sound}
-use Rattle.rx_sound.proofs.Changes.{each_more}
-use Rattle.rx_sound.proofs.Blows.{hit_number}
-use Rattle.rx_sound.proofs.Reached.{sound}
-use Rattle.rx_sound.proofs.Histories.{reached_now, dead-now, none_yet}
-use Rattle.rx_sound.proofs.Releasing.{none_is_not, leaves, each_both, each_none, on_meets}
+use Rattle.rx_tree_laws.specs.Sound.{Each, TaskFits, Sound}
+use Rattle.rx_tree_laws.proofs.Changes.{each_more}
+use Rattle.rx_tree_laws.proofs.Blows.{hit_number}
+use Rattle.rx_tree_laws.proofs.Reached.{sound}
+use Rattle.rx_tree_laws.proofs.Histories.{reached_now, dead-now, none_yet}
+use Rattle.rx_tree_laws.proofs.Releasing.{none_is_not, leaves, each_both, each_none, on_meets}
 use Rattle.rx_runs.specs.Endings.{EveryoneEnds}
 
 abbrev is_number : ℕ → Task → Bool

@@ -10,12 +10,12 @@ use Rattle.rx_rules.specs.declared.entries.Act.TheVariants.{Open, At as Calls, S
 use Rattle.rx_rules.specs.declared.entries.Entry.{Entry}
 use Rattle.rx_rules.specs.declared.entries.Entry.TheVariants.{Step, Root, Death, Join}
 use Rattle.rx_rules.proofs.Numbers.{next-made}
-use Rattle.rx_sound.specs.Chains.{meets}
-use Rattle.rx_sound.specs.Sound.{Sound}
-use Rattle.rx_sound.proofs.Stay.{any_faulted}
-use Rattle.rx_sound.proofs.Releasing.{on_meets, any_filter}
-use Rattle.rx_sound.proofs.Reached.{sound}
-use Rattle.rx_sound.proofs.Histories.{reached_now, dead-now, none_yet}
+use Rattle.rx_tree_laws.specs.Chains.{meets}
+use Rattle.rx_tree_laws.specs.Sound.{Sound}
+use Rattle.rx_tree_laws.proofs.Stay.{any_faulted}
+use Rattle.rx_tree_laws.proofs.Releasing.{on_meets, any_filter}
+use Rattle.rx_tree_laws.proofs.Reached.{sound}
+use Rattle.rx_tree_laws.proofs.Histories.{reached_now, dead-now, none_yet}
 use Rattle.rx_runs.specs.Costs.{cost, Spends}
 use Rattle.rx_runs.specs.Ties.{Moves}
 use Rattle.rx_runs.specs.AnyAnswers.{Works, local, answers, asks, ends, stops, BeginsWork, EachWorks, MadeBounded}

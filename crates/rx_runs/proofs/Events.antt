@@ -4,7 +4,12 @@ use Rattle.std.specs.List.{cons_option}
 use Rattle.std.proofs.lemmas.Bool.{or_right, eq-eqb}
 use Rattle.std.proofs.lemmas.List.{length-append}
 use Rattle.std.proofs.lemmas.List.Folds.{list_any-append}
-use Rattle.rx_rules.proofs.Common.{PlaceId, TaskId, Fault, Block, work, State, Empty, items, answered, Does, does, granted, child, journal_at, moves_from, move_of, brought, started_by, Given, in_all, Proper, Player, Game, Goes, stays, local, stores, Turn, planned, arrives, moves, root, Comes, turns, acted, child_of, closed_by, start_game, tree_in}
+use Rattle.rx_rules.proofs.Common.{PlaceId, TaskId, Fault, Block, work, State, Empty, items, answered, Does, does, granted, child, journal_at, moves_from, move_of, brought, started_by, Given, in_all, Proper, Player, Game, RunsWithoutEntry, stays, local, stores, Turn, planned, arrives, moves, root, MadeByTurns, turns, acted, child_of, closed_by, start_game, tree_in}
+use Rattle.rx_rules.specs.declared.entries.Act.TheVariants.{Arrive, End}
+use Rattle.rx_rules.specs.declared.entries.Entry.{Entry}
+use Rattle.rx_rules.specs.declared.entries.Entry.TheVariants.{Step, Root, Death, Join}
+use Rattle.rx_rules.specs.declared.events.PlaceEvent.{PlaceEvent}
+use Rattle.rx_rules.specs.declared.events.PlaceEvent.TheVariants.{Done as Did, Close}
 use Rattle.rx_base.proofs.Bools.{or-first}
 use Rattle.rx_rules.specs.declared.entries.Act.TheVariants.{Arrive, End}
 use Rattle.rx_rules.specs.declared.entries.Entry.{Entry}
@@ -27,7 +32,7 @@ use Rattle.rx_runs.proofs.Left.{told_sinks, going}
 
 -- Local steps and store calls.
 
-tells : {heap n : ℕ} {t : TaskId} {here : PlaceId} {p q : Player} {S Z : State} {j k : List PlaceEvent} → Goes heap n t here p S j q Z k → length k + steps q.term ≤ length j + steps p.term
+tells : {heap n : ℕ} {t : TaskId} {here : PlaceId} {p q : Player} {S Z : State} {j k : List PlaceEvent} → RunsWithoutEntry heap n t here p S j q Z k → length k + steps q.term ≤ length j + steps p.term
 tells stays = omega arith
 tells {here = here} {p = p} {q = q} {j = j} {k = k} (local {after = after} e g) =
     let less : steps after + 1 ≤ steps p.term = subst (λ (d : Does). Sinks p.term d) e (sinks p.vars here.0 p.term) in
@@ -217,7 +222,7 @@ turn_spends code n U k {G = G} ok (ends x here p q S Z j faults takes where_is p
         let own : move_of (0 + length es) t.0 (Step t (End faults) batch) ≡ Some (0 + length es, End faults, batch) = rw (eq-eqb t.0 t.0 refl) refl in
         ap has_end (moves-push 0 es (Step t (End faults) batch) t.0) ∙ (list_any-append is_end (moves_from 0 es t.0) (cons_option (move_of (0 + length es) t.0 (Step t (End faults) batch)) []) ∙ rw own (or_right (has_end (moves_from 0 es t.0)) true refl))
 
-come_spends : (code : Block) (U : Given) (G : Game) → Proper U → Comes code U G → Spent (3 * work code) G
+come_spends : (code : Block) (U : Given) (G : Game) → Proper U → MadeByTurns code U G → Spent (3 * work code) G
 come_spends code U G proper opens =
     let e : steps (items code [] Empty) ≡ 3 * work code + 0 = steps_items code [] 0 Empty in
     record { credits = 3 * work code ∷ []; each = (λ f. omega (arith, e), tt); most = λ i. (let none : length (journal_at (start_game code U).journals i) ≡ 0 = empty (in_all U) i in omega (arith, none)) }

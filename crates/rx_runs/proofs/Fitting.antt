@@ -3,7 +3,19 @@ use Rattle.std.proofs.Common.{◌≡◌, ◌≢◌, ℕ, zero, suc, ◌%◌, ◌
 use Rattle.std.specs.List.{find}
 use Rattle.std.proofs.lemmas.Bool.{eq-eqb, eqb-true, true≢false, cases_lt}
 use Rattle.std.proofs.lemmas.Option.{slice_get_within}
-use Rattle.rx_rules.proofs.Common.{PlaceId, TaskId, ScopeId, Fault, Block, Term, Empty, Raise, Run, Turns, Trying, Body, Held, no_vars, Answer, items, Does, Local, Makes, Gets, Puts, Forgets, Opens, Calls as Asks, Spawns, Waits, Releases, Prints, Counts, Done, does, granted, child, Tree, is_task, task_of, is_scope, the_root, waiting, resumed, without, born, hit, strike, made_act, made, after_end, AllowedAct, Tells, raised_by, brought, started_by, State, Reached, Given, in_all, NoRoot, Player, Game, Goes, stays, local, stores, Turn, acted, child_of, enabled, tree_in, start_game}
+use Rattle.rx_rules.proofs.Common.{PlaceId, TaskId, ScopeId, Fault, Block, Term, Empty, Raise, Run, Turns, Trying, Body, Held, no_vars, Answer, items, Does, Local, Makes, Gets, Puts, Forgets, Opens, Calls as Asks, Spawns, Waits, Releases, Prints, Counts, Done, does, granted, child, Tree, is_task, task_of, is_scope, the_root, waiting, resumed, without, born, hit, strike, made_act, made, after_end, AllowedAct, Tells, raised_by, brought, started_by, State, Reached, Given, in_all, NoRoot, Player, Game, RunsWithoutEntry, stays, local, stores, Turn, acted, child_of, enabled, tree_in, start_game}
+use Rattle.rx_rules.specs.declared.tasks.Blow.{Blow}
+use Rattle.rx_rules.specs.declared.tasks.Task.{Task}
+use Rattle.rx_rules.specs.declared.tasks.Scope.{Scope}
+use Rattle.rx_rules.specs.declared.tasks.Kind.{Kind}
+use Rattle.rx_rules.specs.declared.tasks.Kind.TheVariants.{Finish, Call}
+use Rattle.rx_rules.specs.declared.tasks.Where.TheVariants.{At}
+use Rattle.rx_rules.specs.declared.entries.Act.{Act}
+use Rattle.rx_rules.specs.declared.entries.Act.TheVariants.{Open, At as Calls, Spawn, Arrive, Wait, Release, End, Print, Census}
+use Rattle.rx_rules.specs.declared.entries.Entry.{Entry}
+use Rattle.rx_rules.specs.declared.entries.Entry.TheVariants.{Step, Root, Death, Join}
+use Rattle.rx_rules.specs.declared.events.Cell.{Cell}
+use Rattle.rx_rules.specs.declared.events.PlaceEvent.{PlaceEvent}
 use Rattle.rx_base.proofs.Elements.{get-set}
 use Rattle.rx_base.proofs.SameIds.{task-is}
 use Rattle.rx_rules.specs.declared.tasks.Blow.{Blow}
@@ -22,13 +34,13 @@ use Rattle.rx_rules.specs.Plays.{Fits}
 use Rattle.rx_rules.specs.Picked as picked
 use Rattle.rx_rules.proofs.Append.{tree-push}
 use Rattle.rx_rules.proofs.Numbers.{next-tree}
-use Rattle.rx_sound.specs.Sound.{Inside, Sound}
-use Rattle.rx_sound.proofs.Blows.{hit_number}
-use Rattle.rx_sound.proofs.Reach.{task_below, fits_of}
-use Rattle.rx_sound.proofs.Reached.{sound, stays_at_release}
-use Rattle.rx_sound.proofs.Owning.{release_pops}
-use Rattle.rx_sound.proofs.Waiting.{OpenersBelow, openers_below, hit_free, hit_waits}
-use Rattle.rx_runs.specs.Framing.{frames, first, Flat, Shape, kinds_of, Match, TermFits, TermsFit}
+use Rattle.rx_tree_laws.specs.Sound.{Inside, Sound}
+use Rattle.rx_tree_laws.proofs.Blows.{hit_number}
+use Rattle.rx_tree_laws.proofs.Reach.{task_below, fits_of}
+use Rattle.rx_tree_laws.proofs.Reached.{sound, stays_at_release}
+use Rattle.rx_tree_laws.proofs.Owning.{release_pops}
+use Rattle.rx_tree_laws.proofs.Waiting.{OpenersBelow, openers_below, hit_free, hit_waits}
+use Rattle.rx_runs.specs.Framing.{frames, first, Flat, FlatAfterItem, kinds_of, Match, TermFits, TermsFit}
 use Rattle.rx_runs.specs.Games.{GameOk, PlayerSo}
 use Rattle.rx_runs.proofs.Asking.{one_task}
 use Rattle.rx_runs.proofs.Framing.{Framed, Stored, enough, all_framed, flat_items, flat_shape, flat_frames}
@@ -40,7 +52,7 @@ use Rattle.rx_runs.proofs.Scopes.{find_other, find_own, find_gone, find_unmap, s
 
 -- The task that acts.
 
-fit_as : {kinds now : List Kind} {fs : List Bool} {t : Term} {waits : Bool} → now ≡ kinds → frames t ≡ fs → Shape t → Match fs kinds → waits ≡ first fs → TermFits now waits t
+fit_as : {kinds now : List Kind} {fs : List Bool} {t : Term} {waits : Bool} → now ≡ kinds → frames t ≡ fs → FlatAfterItem t → Match fs kinds → waits ≡ first fs → TermFits now waits t
 fit_as {kinds = kinds} {now = now} {fs = fs} {t = t} ek ef shape match waits =
     record {
       shape = shape;
@@ -377,7 +389,7 @@ store_framed places t (Prints z) here c a f h = absurd h
 store_framed places t (Counts name) here c a f h = absurd h
 store_framed places t (Done faults) here c a f h = absurd h
 
-pub goes_frames : {heap n : ℕ} {t : TaskId} {here : PlaceId} {p q : Player} {S Z : State} {j k : List PlaceEvent} → Goes heap n t here p S j q Z k → Shape p.term → Shape q.term × (frames q.term ≡ frames p.term)
+pub goes_frames : {heap n : ℕ} {t : TaskId} {here : PlaceId} {p q : Player} {S Z : State} {j k : List PlaceEvent} → RunsWithoutEntry heap n t here p S j q Z k → FlatAfterItem p.term → FlatAfterItem q.term × (frames q.term ≡ frames p.term)
 goes_frames stays shape = (shape, refl)
 goes_frames {here = here} {p = p} (local {after = after} {left = left} e g) shape =
     let f : Framed (enough p.vars here.0) p.term (Local after left) = subst (λ (d : Does). Framed (enough p.vars here.0) p.term d) e (all_framed p.vars here.0 p.term shape) in

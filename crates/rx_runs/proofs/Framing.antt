@@ -3,7 +3,7 @@ use Rattle.std.proofs.Common.{◌≡◌, ℕ, suc, ℤ, pos, negsuc, ◌+◌, �
 use Rattle.std.proofs.lemmas.Bool.{ltb-true}
 use Rattle.rx_rules.proofs.Common.{GlobalRef, Number, Fault, Thrown, WrongPlace, Overflow, NoPlace, Block, Nothing, Then, Stmt, bound, Term, Empty, Raise, Run, Turns, Trying, Body, Held, Does, Local, Makes, Gets, Puts, Forgets, Opens, Calls, Spawns, Waits, Releases, Prints, Counts, Done, granted, child, Vars, does, items, items_from, at, eval, with_number, with_place, target_of, on_ref, ref_in, is_zero, stmt_does, catches, or_raise, raise, value_of, within, begins, Answer, Gives, Fine, Fails, answered}
 use Rattle.rx_rules.specs.Code as code
-use Rattle.rx_runs.specs.Framing.{frames, first, Flat, Shape}
+use Rattle.rx_runs.specs.Framing.{frames, first, Flat, FlatAfterItem}
 
 -- it does not wait
 abbrev pub Calm : Term → Type 0
@@ -15,7 +15,7 @@ Begun t = (x : List ℕ) × (begins t ≡ Some x)
 
 -- it stands in the same scopes
 abbrev pub Keeps : Term → Term → Type 0
-Keeps t after = Shape after × (frames after ≡ frames t)
+Keeps t after = FlatAfterItem after × (frames after ≡ frames t)
 
 abbrev pub Stored : Term → Type 0
 Stored t = Calm t × Begun t × ((a : Answer) → Keeps t (answered a t))
@@ -27,11 +27,11 @@ Framed places t (Makes name words) = Stored t
 Framed places t (Gets name target index) = Stored t
 Framed places t (Puts target index value) = Stored t
 Framed places t (Forgets target) = Stored t
-Framed places t Opens = Calm t × Begun t × Shape (granted [] t) × (frames (granted [] t) ≡ false ∷ frames t)
-Framed places t (Calls p) = Calm t × Begun t × (p < places) × Flat (child t) × Shape (granted [] t) × (frames (granted [] t) ≡ true ∷ frames t)
+Framed places t Opens = Calm t × Begun t × FlatAfterItem (granted [] t) × (frames (granted [] t) ≡ false ∷ frames t)
+Framed places t (Calls p) = Calm t × Begun t × (p < places) × Flat (child t) × FlatAfterItem (granted [] t) × (frames (granted [] t) ≡ true ∷ frames t)
 Framed places t (Spawns p) = Calm t × Begun t × (p < places) × Flat (child t) × Keeps t (granted [] t)
-Framed places t (Waits faults) = (fs : List Bool) × (frames t ≡ false ∷ fs) × Shape (granted [] t) × (frames (granted [] t) ≡ true ∷ fs)
-Framed places t Releases = (fs : List Bool) × (frames t ≡ true ∷ fs) × ((faults : List Fault) → Shape (granted faults t) × (frames (granted faults t) ≡ fs))
+Framed places t (Waits faults) = (fs : List Bool) × (frames t ≡ false ∷ fs) × FlatAfterItem (granted [] t) × (frames (granted [] t) ≡ true ∷ fs)
+Framed places t Releases = (fs : List Bool) × (frames t ≡ true ∷ fs) × ((faults : List Fault) → FlatAfterItem (granted faults t) × (frames (granted faults t) ≡ fs))
 Framed places t (Prints value) = Calm t × Begun t × Keeps t (granted [] t)
 Framed places t (Counts name) = Calm t × Begun t × Keeps t (granted [] t)
 Framed places t (Done faults) = frames t ≡ []
@@ -42,7 +42,7 @@ pub flat_items : (b : Block) (x : List ℕ) (i : ℕ) (rest : Term) → Flat res
 flat_items Nothing x i rest h = h
 flat_items (Then one more) x i rest h = flat_items more x (suc i) rest h
 
-pub flat_shape : (t : Term) → Flat t → Shape t
+pub flat_shape : (t : Term) → Flat t → FlatAfterItem t
 flat_shape Empty h = tt
 flat_shape (Raise faults) h = tt
 flat_shape (Run stmt x rest) h = h
@@ -190,7 +190,7 @@ body_stored inside rest flat h = (calm_body (frames inside) h.0, h.1, λ a. body
 
 -- a granted body, by the term inside
 abbrev IsBody : Term → Term → List Bool → Type 0
-IsBody rest t fs = Shape t × (frames t ≡ fs)
+IsBody rest t fs = FlatAfterItem t × (frames t ≡ fs)
 
 as_body : (inside rest : Term) (fs : List Bool) → ((faults : List Fault) → granted faults (Body inside rest) ≡ Body (granted faults inside) rest) → Flat rest → (faults : List Fault) → IsBody rest (granted faults inside) fs → IsBody rest (granted faults (Body inside rest)) (fs ++ false ∷ [])
 as_body inside rest fs g flat faults h = subst (λ (t : Term). IsBody rest t (fs ++ false ∷ [])) (sym (g faults)) ((h.0, flat), more _ _ h.1)
@@ -292,12 +292,12 @@ busy_not vars here (Held rest) fs b e = cc
 
 -- Each step of a term.
 
-held_framed : (faults : List Fault) (rest : Term) → Flat rest → Shape (or_raise faults rest) × (frames (or_raise faults rest) ≡ [])
+held_framed : (faults : List Fault) (rest : Term) → Flat rest → FlatAfterItem (or_raise faults rest) × (frames (or_raise faults rest) ≡ [])
 held_framed [] rest h = (flat_shape rest h, flat_frames rest h)
 held_framed (f ∷ fs) rest h = (tt, refl)
 
 module _ (vars : Vars) (here places : ℕ) (low : here < places) (known : vars.places ≤ places) where
-  pub framed : (t : Term) → Shape t → Framed places t (does vars here t)
+  pub framed : (t : Term) → FlatAfterItem t → Framed places t (does vars here t)
   framed Empty h = refl
   framed (Raise faults) h = refl
   framed (Run stmt x rest) h = stmt_framed vars here places low known stmt x rest h
@@ -324,5 +324,5 @@ module _ (vars : Vars) (here places : ℕ) (low : here < places) (known : vars.p
 abbrev pub enough : Vars → ℕ → ℕ
 enough vars here = suc (here + vars.places)
 
-pub all_framed : (vars : Vars) (here : ℕ) (t : Term) → Shape t → Framed (enough vars here) t (does vars here t)
+pub all_framed : (vars : Vars) (here : ℕ) (t : Term) → FlatAfterItem t → Framed (enough vars here) t (does vars here t)
 all_framed vars here t shape = framed vars here (enough vars here) (omega arith) (omega arith) t shape

@@ -3,7 +3,16 @@ use Rattle.std.proofs.Common.{◌≡◌, ℕ, zero, suc, ◌+◌, ◌%◌, ◌^�
 use Rattle.std.specs.List.{find, list_any}
 use Rattle.std.proofs.Math.Nat.{mod-lt}
 use Rattle.std.proofs.lemmas.Bool.{cases_lt}
-use Rattle.rx_rules.proofs.Common.{PlaceId, ScopeId, PlaceSet, Block, Does, Local, Makes, Gets, Puts, Forgets, Opens, Calls as Asks, Spawns, Waits, Releases, Prints, Counts, Done, does, Tree, opened_by, inner, governs, quiet, is_under, the_root, ActAsks, AllowedAct, IsLive, MayFree, was_lost_at, masked_under, thrown_of, journal_at, State, Given, in_all, Event, NoRoot, EndsWithRoot, NoneDue, IsDue, Player, Game, Turn, Comes, turns, IsPicked, none, more, used_after, enabled, tree_in, start_game}
+use Rattle.rx_rules.proofs.Common.{PlaceId, ScopeId, PlaceSet, Block, Does, Local, Makes, Gets, Puts, Forgets, Opens, Calls as Asks, Spawns, Waits, Releases, Prints, Counts, Done, does, Tree, opened_by, inner, governs, quiet, is_under, the_root, ActAsks, AllowedAct, IsLive, MayFree, was_lost_at, masked_under, thrown_of, journal_at, State, Given, in_all, Event, NoRoot, EndsWithRoot, NoneDue, IsDue, Player, Game, Turn, MadeByTurns, turns, IsPicked, none, more, used_after, enabled, tree_in, start_game}
+use Rattle.rx_rules.specs.declared.tasks.Where.{Where}
+use Rattle.rx_rules.specs.declared.tasks.Where.TheVariants.{At, Travel}
+use Rattle.rx_rules.specs.declared.tasks.Task.{Task}
+use Rattle.rx_rules.specs.declared.tasks.Scope.{Scope}
+use Rattle.rx_rules.specs.declared.tasks.Kind.TheVariants.{Finish}
+use Rattle.rx_rules.specs.declared.entries.Act.{Act}
+use Rattle.rx_rules.specs.declared.entries.Act.TheVariants.{Open, At as Calls, Spawn, Arrive, Wait, Release, End, Print, Census}
+use Rattle.rx_rules.specs.declared.entries.Entry.{Entry}
+use Rattle.rx_rules.specs.declared.entries.Entry.TheVariants.{Step, Root, Death, Join}
 use Rattle.rx_base.proofs.Elements.{get-within}
 use Rattle.rx_rules.specs.declared.tasks.Where.{Where}
 use Rattle.rx_rules.specs.declared.tasks.Where.TheVariants.{At, Travel}
@@ -18,8 +27,8 @@ use Rattle.rx_rules.specs.Plays.{Fits}
 use Rattle.rx_rules.specs.Picked as picked
 use Rattle.rx_rules.specs.Picked.{Turns, opens}
 use Rattle.rx_rules.proofs.Append.{no_root-push, root-push}
-use Rattle.rx_sound.proofs.Enabling.{none_left, inner_is}
-use Rattle.rx_sound.proofs.Rooting.{root_stands}
+use Rattle.rx_tree_laws.proofs.Enabling.{none_left, inner_is}
+use Rattle.rx_tree_laws.proofs.Rooting.{root_stands}
 use Rattle.rx_runs.specs.Framing.{frames, first, kinds_of, Match, TermFits, TermsFit}
 use Rattle.rx_runs.specs.Games.{GameOk, PlayerSo, JournalSo}
 use Rattle.rx_runs.specs.Knowing.{KnownAreThere}
@@ -203,7 +212,7 @@ kept_along code U picks n j G G'' ok (more {G' = G'} {used = u} free t ts) h =
     let was = ok free in
     kept_along code U picks _ (used_after u j) G' G'' (λ now. (turn_keeps code U (picks j) u G G' was.0 t now, fits_keeps code U (picks j) u G G' was.0 was.1 t now)) ts h
 
-come_along : (code : Block) (U : Given) (picks : ℕ → ℕ) (n j : ℕ) (G G' : Game) → Comes code U G → Turns U picks n j G G' → Comes code U G'
+come_along : (code : Block) (U : Given) (picks : ℕ → ℕ) (n j : ℕ) (G G' : Game) → MadeByTurns code U G → Turns U picks n j G G' → MadeByTurns code U G'
 come_along code U picks n j G G' came none = came
 come_along code U picks n j G G'' came (more {G' = G'} {used = u} free t ts) = come_along code U picks _ (used_after u j) G' G'' (turns came free t) ts
 
@@ -229,7 +238,7 @@ pub record Runs (U : Given) (picks : ℕ → ℕ) (j : ℕ) (G : Game) : Type 0 
   pub ended : EndsWithRoot last.entries
   pub sets : SetsFit G.entries → SetsFit last.entries
 
-run_on : (code : Block) (U : Given) (picks : ℕ → ℕ) (fuel j : ℕ) (G : Game) → owes G.entries 0 G.players + length G.plan < fuel → Comes code U G → GameOk code U G → TermsFit (tree_in U G) G.players → Runs U picks j G
+run_on : (code : Block) (U : Given) (picks : ℕ → ℕ) (fuel j : ℕ) (G : Game) → owes G.entries 0 G.players + length G.plan < fuel → MadeByTurns code U G → GameOk code U G → TermsFit (tree_in U G) G.players → Runs U picks j G
 run_on code U picks zero j G less came ok all = absurd (omega arith)
 run_on code U picks (suc fuel) j G less came ok all =
     let t = next_of code U G ok all (comes_knowing code U G came) (picks j) in

@@ -267,7 +267,7 @@ module _ (code : Block) (U : Given) (G : Game) (ok : GameOk code U G) where
     pub journals : Pairs (JournalSo U (G.entries ++ Step t act batch ∷ [])) 0 (slice_set G.journals here.0 k) (slice_set G.stores here.0 Z)
     pub silent : (m r : ℕ) → length ok.starts ≤ m → filter_map (cell_of m) (journal_at (slice_set G.journals here.0 k) r) ≡ []
 
-  parts : (i : ℕ) (x : Task) (here : PlaceId) (p r : Player) (S Z : State) (k : List PlaceEvent) (act : Act) (more : Starts) (last : Player) → slice_get (enabled (tree_in U G)) i ≡ Some x → x.place ≡ At here → slice_get G.players x.number.0 ≡ Some p → slice_get G.stores here.0 ≡ Some S → picked.Goes U.heap (length G.entries) x.number here p S (journal_at G.journals here.0) r Z k → Keeps ok.starts more → StartsAt (length ok.starts) act → ((b : Birth) (s : Term × Vars) (cells : Cells) (moves : Moves) → b.to ≡ here → (g : Going ok.starts (length G.entries) b s cells moves p) → (c : Piece more U.heap (length G.entries) x.number here g.now p S (journal_at G.journals here.0) r Z k) → TaskSo more (suc (length G.entries)) b s (cells ++ filter_map (cell_of x.number.0) c.new) (moves ++ (length G.entries, act, r.batch) ∷ []) last) → Parts x.number here act r.batch more k Z last
+  parts : (i : ℕ) (x : Task) (here : PlaceId) (p r : Player) (S Z : State) (k : List PlaceEvent) (act : Act) (more : Starts) (last : Player) → slice_get (enabled (tree_in U G)) i ≡ Some x → x.place ≡ At here → slice_get G.players x.number.0 ≡ Some p → slice_get G.stores here.0 ≡ Some S → picked.RunsWithoutEntry U.heap (length G.entries) x.number here p S (journal_at G.journals here.0) r Z k → Keeps ok.starts more → StartsAt (length ok.starts) act → ((b : Birth) (s : Term × Vars) (cells : Cells) (moves : Moves) → b.to ≡ here → (g : Going ok.starts (length G.entries) b s cells moves p) → (c : Piece more U.heap (length G.entries) x.number here g.now p S (journal_at G.journals here.0) r Z k) → TaskSo more (suc (length G.entries)) b s (cells ++ filter_map (cell_of x.number.0) c.new) (moves ++ (length G.entries, act, r.batch) ∷ []) last) → Parts x.number here act r.batch more k Z last
   parts i x here p r S Z k act more last pick at player store goes keeps starts_at make =
       let t : TaskId = x.number in
       let n : ℕ = length G.entries in
@@ -317,7 +317,7 @@ module _ (code : Block) (U : Given) (G : Game) (ok : GameOk code U G) where
       }
 
   -- an act that starts no task
-  plain : (i : ℕ) (x : Task) (here : PlaceId) (p r : Player) (S Z : State) (k : List PlaceEvent) (act : Act) → NoneDue (length G.entries) G.plan → slice_get (enabled (tree_in U G)) i ≡ Some x → x.place ≡ At here → slice_get G.players x.number.0 ≡ Some p → slice_get G.stores here.0 ≡ Some S → picked.Goes U.heap (length G.entries) x.number here p S (journal_at G.journals here.0) r Z k → Fits here r.term (does r.vars here.0 r.term) act → AllowedAct (tree_in U G) x.number act → NoRoot (G.entries ++ Step x.number act r.batch ∷ []) → started_by act ≡ None → is_end (length G.entries, act, r.batch) ≡ false → births (Step x.number act r.batch ∷ []) ≡ 0 → ((p : PlaceId) → act ≡ Arrive p → ⊥) → GameOk code U (record { players = slice_set G.players x.number.0 (picked.acted here r act) ++ child_of r act; entries = G.entries ++ Step x.number act r.batch ∷ []; journals = slice_set G.journals here.0 k; stores = slice_set G.stores here.0 Z; plan = G.plan })
+  plain : (i : ℕ) (x : Task) (here : PlaceId) (p r : Player) (S Z : State) (k : List PlaceEvent) (act : Act) → NoneDue (length G.entries) G.plan → slice_get (enabled (tree_in U G)) i ≡ Some x → x.place ≡ At here → slice_get G.players x.number.0 ≡ Some p → slice_get G.stores here.0 ≡ Some S → picked.RunsWithoutEntry U.heap (length G.entries) x.number here p S (journal_at G.journals here.0) r Z k → Fits here r.term (does r.vars here.0 r.term) act → AllowedAct (tree_in U G) x.number act → NoRoot (G.entries ++ Step x.number act r.batch ∷ []) → started_by act ≡ None → is_end (length G.entries, act, r.batch) ≡ false → births (Step x.number act r.batch ∷ []) ≡ 0 → ((p : PlaceId) → act ≡ Arrive p → ⊥) → GameOk code U (record { players = slice_set G.players x.number.0 (picked.acted here r act) ++ child_of r act; entries = G.entries ++ Step x.number act r.batch ∷ []; journals = slice_set G.journals here.0 k; stores = slice_set G.stores here.0 Z; plan = G.plan })
   plain i x here p r S Z k act none_due pick at player store goes fits may no_root sb e nb na =
       let last : Player = picked.acted here r act in
       let starts_at : StartsAt (length ok.starts) act = subst (λ (o : Option TaskId). IsNext (length ok.starts) o) (sym sb) tt in
@@ -337,7 +337,7 @@ module _ (code : Block) (U : Given) (G : Game) (ok : GameOk code U G) where
       ps.silent
 
   -- an act that starts one
-  birth : (i : ℕ) (x : Task) (here : PlaceId) (p r : Player) (S Z : State) (k : List PlaceEvent) (act : Act) (c : TaskId) (from to : PlaceId) → NoneDue (length G.entries) G.plan → slice_get (enabled (tree_in U G)) i ≡ Some x → x.place ≡ At here → slice_get G.players x.number.0 ≡ Some p → slice_get G.stores here.0 ≡ Some S → picked.Goes U.heap (length G.entries) x.number here p S (journal_at G.journals here.0) r Z k → Fits here r.term (does r.vars here.0 r.term) act → AllowedAct (tree_in U G) x.number act → NoRoot (G.entries ++ Step x.number act r.batch ∷ []) → started_by act ≡ Some c → c.0 ≡ length ok.starts → is_end (length G.entries, act, r.batch) ≡ false → births (Step x.number act r.batch ∷ []) ≡ 1 → ((p : PlaceId) → act ≡ Arrive p → ⊥) → ((j : ℕ) → birth_in j c.0 (Step x.number act r.batch) ≡ Some (record { from = from; to = to; low = suc j })) → GameOk code U (record { players = slice_set G.players x.number.0 (picked.acted here r act) ++ child_of r act; entries = G.entries ++ Step x.number act r.batch ∷ []; journals = slice_set G.journals here.0 k; stores = slice_set G.stores here.0 Z; plan = G.plan })
+  birth : (i : ℕ) (x : Task) (here : PlaceId) (p r : Player) (S Z : State) (k : List PlaceEvent) (act : Act) (c : TaskId) (from to : PlaceId) → NoneDue (length G.entries) G.plan → slice_get (enabled (tree_in U G)) i ≡ Some x → x.place ≡ At here → slice_get G.players x.number.0 ≡ Some p → slice_get G.stores here.0 ≡ Some S → picked.RunsWithoutEntry U.heap (length G.entries) x.number here p S (journal_at G.journals here.0) r Z k → Fits here r.term (does r.vars here.0 r.term) act → AllowedAct (tree_in U G) x.number act → NoRoot (G.entries ++ Step x.number act r.batch ∷ []) → started_by act ≡ Some c → c.0 ≡ length ok.starts → is_end (length G.entries, act, r.batch) ≡ false → births (Step x.number act r.batch ∷ []) ≡ 1 → ((p : PlaceId) → act ≡ Arrive p → ⊥) → ((j : ℕ) → birth_in j c.0 (Step x.number act r.batch) ≡ Some (record { from = from; to = to; low = suc j })) → GameOk code U (record { players = slice_set G.players x.number.0 (picked.acted here r act) ++ child_of r act; entries = G.entries ++ Step x.number act r.batch ∷ []; journals = slice_set G.journals here.0 k; stores = slice_set G.stores here.0 Z; plan = G.plan })
   birth i x here p r S Z k act c from to none_due pick at player store goes fits may no_root sb new e nb na b =
       let t : TaskId = x.number in
       let last : Player = picked.acted here r act in
@@ -381,7 +381,7 @@ module _ (code : Block) (U : Given) (G : Game) (ok : GameOk code U G) where
       (λ m q le. ps.silent m q (omega arith))
 
   -- a turn with an entry other than an arrival or an end
-  pub keeps_move : (i : ℕ) (x : Task) (here : PlaceId) (p r : Player) (S Z : State) (k : List PlaceEvent) (act : Act) → NoneDue (length G.entries) G.plan → slice_get (enabled (tree_in U G)) i ≡ Some x → x.place ≡ At here → slice_get G.players x.number.0 ≡ Some p → slice_get G.stores here.0 ≡ Some S → picked.Goes U.heap (length G.entries) x.number here p S (journal_at G.journals here.0) r Z k → Fits here r.term (does r.vars here.0 r.term) act → AllowedAct (tree_in U G) x.number act → NoRoot (G.entries ++ Step x.number act r.batch ∷ []) → GameOk code U (record { players = slice_set G.players x.number.0 (picked.acted here r act) ++ child_of r act; entries = G.entries ++ Step x.number act r.batch ∷ []; journals = slice_set G.journals here.0 k; stores = slice_set G.stores here.0 Z; plan = G.plan })
+  pub keeps_move : (i : ℕ) (x : Task) (here : PlaceId) (p r : Player) (S Z : State) (k : List PlaceEvent) (act : Act) → NoneDue (length G.entries) G.plan → slice_get (enabled (tree_in U G)) i ≡ Some x → x.place ≡ At here → slice_get G.players x.number.0 ≡ Some p → slice_get G.stores here.0 ≡ Some S → picked.RunsWithoutEntry U.heap (length G.entries) x.number here p S (journal_at G.journals here.0) r Z k → Fits here r.term (does r.vars here.0 r.term) act → AllowedAct (tree_in U G) x.number act → NoRoot (G.entries ++ Step x.number act r.batch ∷ []) → GameOk code U (record { players = slice_set G.players x.number.0 (picked.acted here r act) ++ child_of r act; entries = G.entries ++ Step x.number act r.batch ∷ []; journals = slice_set G.journals here.0 k; stores = slice_set G.stores here.0 Z; plan = G.plan })
   keeps_move i x here p r S Z k (Open s q y) due pick at player store goes fits may h = plain i x here p r S Z k (Open s q y) due pick at player store goes fits may h refl refl refl (λ v e. cc)
   keeps_move i x here p r S Z k (Wait s thrown) due pick at player store goes fits may h = plain i x here p r S Z k (Wait s thrown) due pick at player store goes fits may h refl refl refl (λ v e. cc)
   keeps_move i x here p r S Z k (Release s lost masked thrown) due pick at player store goes fits may h = plain i x here p r S Z k (Release s lost masked thrown) due pick at player store goes fits may h refl refl refl (λ v e. cc)
@@ -395,7 +395,7 @@ module _ (code : Block) (U : Given) (G : Game) (ok : GameOk code U G) where
   keeps_move i x here p r S Z k (End f) due pick at player store goes fits may h = absurd (asks_no_end here r.term (does r.vars here.0 r.term) f fits)
 
   -- a turn by which a task ends
-  pub keeps_end : (i : ℕ) (x : Task) (here : PlaceId) (p r : Player) (S Z : State) (k : List PlaceEvent) (faults : List Fault) → NoneDue (length G.entries) G.plan → slice_get (enabled (tree_in U G)) i ≡ Some x → x.place ≡ At here → slice_get G.players x.number.0 ≡ Some p → slice_get G.stores here.0 ≡ Some S → picked.Goes U.heap (length G.entries) x.number here p S (journal_at G.journals here.0) r Z k → does r.vars here.0 r.term ≡ Done faults → AllowedAct (tree_in U G) x.number (End faults) → NoRoot (G.entries ++ Step x.number (End faults) r.batch ∷ []) → GameOk code U (record G { entries = G.entries ++ Step x.number (End faults) r.batch ∷ []; journals = slice_set G.journals here.0 k; stores = slice_set G.stores here.0 Z })
+  pub keeps_end : (i : ℕ) (x : Task) (here : PlaceId) (p r : Player) (S Z : State) (k : List PlaceEvent) (faults : List Fault) → NoneDue (length G.entries) G.plan → slice_get (enabled (tree_in U G)) i ≡ Some x → x.place ≡ At here → slice_get G.players x.number.0 ≡ Some p → slice_get G.stores here.0 ≡ Some S → picked.RunsWithoutEntry U.heap (length G.entries) x.number here p S (journal_at G.journals here.0) r Z k → does r.vars here.0 r.term ≡ Done faults → AllowedAct (tree_in U G) x.number (End faults) → NoRoot (G.entries ++ Step x.number (End faults) r.batch ∷ []) → GameOk code U (record G { entries = G.entries ++ Step x.number (End faults) r.batch ∷ []; journals = slice_set G.journals here.0 k; stores = slice_set G.stores here.0 Z })
   keeps_end i x here p r S Z k faults none_due pick at player store goes done may no_root =
       let keeps : Keeps ok.starts ok.starts = λ j y h. h in
       let ps : Parts x.number here (End faults) r.batch ok.starts k Z p =

@@ -1,6 +1,6 @@
 -- No task knows of more places than there are.
 use Rattle.std.proofs.Common.{◌≡◌, ℕ, zero, suc, ℤ, ◌≤◌, ◌==◌, Bool, true, false, cond, List, [], ◌∷◌, ◌++◌, length, Option, Some, None, Result, Ok, Err, slice_get, slice_set, refl, ap, ◌∙◌, sym, subst, arith}
-use Rattle.rx_rules.proofs.Common.{PlaceId, TaskId, Fault, Thrown, WrongPlace, Number, Block, Stmt, SetTo, New, Get, Put, Forget, Census, Print, Throw, Async, AtAsync, At, Finish, If, Repeat, Try, Vars, Term, Empty, Run, Raise, Turns, Trying, Body, Held, items, at, Answer, Gives, Fine, Fails, vars_after, Does, Local, Makes, Gets, Puts, Forgets, Opens, Calls, Spawns, Waits, Releases, Prints, Counts, Done, raise, bound, value_of, ref_in, eval, target_of, is_zero, with_number, with_place, stmt_does, within, trying_does, body_does, does, child, Tree, AllowedAct, made, made_act, tree_of, started_by, vars_told, journal_at, State, Given, Player, Game, Goes, stays, local, stores, Turn, planned, arrives, moves, root, Comes, turns, tree_in, acted, child_of}
+use Rattle.rx_rules.proofs.Common.{PlaceId, TaskId, Fault, Thrown, WrongPlace, Number, Block, Stmt, SetTo, New, Get, Put, Forget, Census, Print, Throw, Async, AtAsync, At, Finish, If, Repeat, Try, Vars, Term, Empty, Run, Raise, Turns, Trying, Body, Held, items, at, Answer, Gives, Fine, Fails, vars_after, Does, Local, Makes, Gets, Puts, Forgets, Opens, Calls, Spawns, Waits, Releases, Prints, Counts, Done, raise, bound, value_of, ref_in, eval, target_of, is_zero, with_number, with_place, stmt_does, within, trying_does, body_does, does, child, Tree, AllowedAct, made, made_act, tree_of, started_by, vars_told, journal_at, State, Given, Player, Game, RunsWithoutEntry, stays, local, stores, Turn, planned, arrives, moves, root, MadeByTurns, turns, tree_in, acted, child_of}
 use Rattle.rx_rules.specs.declared.entries.Act.{Act}
 use Rattle.rx_rules.specs.declared.entries.Act.TheVariants.{Open, At as Asks, Spawn, Arrive, Wait, Release, End, Print as Shows, Census as Told}
 use Rattle.rx_rules.specs.declared.entries.Entry.{Entry}
@@ -118,7 +118,7 @@ answer_knows (Gives name value) vars = refl
 answer_knows Fine vars = refl
 answer_knows (Fails fault) vars = refl
 
-pub goes_know : {heap n : ℕ} {t : TaskId} {here : PlaceId} {p q : Player} {S Z : State} {j k : List PlaceEvent} → Goes heap n t here p S j q Z k → q.vars.places ≡ p.vars.places
+pub goes_know : {heap n : ℕ} {t : TaskId} {here : PlaceId} {p q : Player} {S Z : State} {j k : List PlaceEvent} → RunsWithoutEntry heap n t here p S j q Z k → q.vars.places ≡ p.vars.places
 goes_know stays = refl
 goes_know {here = here} {p = p} (local {after = after} {left = left} e g) = goes_know g ∙ local_knows p.vars left here.0 p.term after e
 goes_know {p = p} (stores cell x a told b may g) = goes_know g ∙ answer_knows a p.vars
@@ -246,7 +246,7 @@ record Acted (T : Tree) (p q last : Player) : Type 0 where
   less : p.vars.places ≤ last.vars.places
   there : last.vars.places ≤ T.places
 
-acts_so : (T : Tree) (heap n : ℕ) (t : TaskId) (here : PlaceId) (p q : Player) (S Z : State) (j k : List PlaceEvent) (act : Act) → p.vars.places ≤ T.places → Goes heap n t here p S j q Z k → AllowedAct T t act → Acted T p q (acted here q act)
+acts_so : (T : Tree) (heap n : ℕ) (t : TaskId) (here : PlaceId) (p q : Player) (S Z : State) (j k : List PlaceEvent) (act : Act) → p.vars.places ≤ T.places → RunsWithoutEntry heap n t here p S j q Z k → AllowedAct T t act → Acted T p q (acted here q act)
 acts_so T heap n t here p q S Z j k act le go may =
     let same : q.vars.places ≡ p.vars.places = goes_know go in
     let tells : Tells T q.vars (vars_told (does q.vars here.0 q.term) act q.vars) = act_tells T t q.vars (does q.vars here.0 q.term) act (omega arith) may in
@@ -272,7 +272,7 @@ turn_knows U k {G = G} (ends x here p q S Z j faults takes where_is player store
     (up U k G.players (ends {G = G} x here p q S Z j faults takes where_is player store go done may) h, grows-same G.players)
 turn_knows U k {G = G} (root lost masked thrown free none may) h = (up U k G.players (root {G = G} lost masked thrown free none may) h, grows-same G.players)
 
-come_know : (code : Block) (U : Given) {G : Game} → Comes code U G → Each (tree_in U G).places G.players
+come_know : (code : Block) (U : Given) {G : Game} → MadeByTurns code U G → Each (tree_in U G).places G.players
 come_know code U opens = (omega arith, tt)
 come_know code U (turns {k = k} c free t) = (turn_knows U k t (come_know code U c)).0
 

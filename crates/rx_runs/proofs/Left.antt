@@ -1,6 +1,6 @@
 -- How many steps the terms of a game that turns have made have still to make.
 use Rattle.std.proofs.Common.{◌≡◌, ℕ, zero, suc, ◌+◌, ◌*◌, ◌≤◌, Bool, List, [], ◌∷◌, ◌++◌, Option, Some, None, slice_get, slice_set, subst, arith}
-use Rattle.rx_rules.proofs.Common.{PlaceId, TaskId, Block, work, State, Term, Empty, items, Answer, answered, Does, Local, Makes, Gets, Puts, Forgets, Opens, Calls as Asks, Spawns, Waits, Releases, Prints, Counts, Done, does, granted, child, Tells, brought, started_by, Given, Player, Game, Goes, stays, local, stores, Turn, planned, arrives, moves, root, Comes, turns, acted, child_of}
+use Rattle.rx_rules.proofs.Common.{PlaceId, TaskId, Block, work, State, Term, Empty, items, Answer, answered, Does, Local, Makes, Gets, Puts, Forgets, Opens, Calls as Asks, Spawns, Waits, Releases, Prints, Counts, Done, does, granted, child, Tells, brought, started_by, Given, Player, Game, RunsWithoutEntry, stays, local, stores, Turn, planned, arrives, moves, root, MadeByTurns, turns, acted, child_of}
 use Rattle.rx_rules.specs.declared.events.Cell.{Cell}
 use Rattle.rx_rules.specs.declared.events.PlaceEvent.{PlaceEvent}
 use Rattle.rx_rules.specs.Picked.{ends, opens}
@@ -27,7 +27,7 @@ told_sinks t (Prints u) here cell a s h = absurd h
 told_sinks t (Counts name) here cell a s h = absurd h
 told_sinks t (Done u) here cell a s h = absurd h
 
-pub going : {heap n : ℕ} {t : TaskId} {here : PlaceId} {p q : Player} {S Z : State} {j k : List PlaceEvent} → Goes heap n t here p S j q Z k → steps q.term ≤ steps p.term
+pub going : {heap n : ℕ} {t : TaskId} {here : PlaceId} {p q : Player} {S Z : State} {j k : List PlaceEvent} → RunsWithoutEntry heap n t here p S j q Z k → steps q.term ≤ steps p.term
 going stays = omega arith
 going {here = here} {p = p} {q = q} (local {after = after} e g) =
     let less : steps after + 1 ≤ steps p.term = subst (λ (d : Does). Sinks p.term d) e (sinks p.vars here.0 p.term) in
@@ -77,7 +77,7 @@ turn_few n U k {G = G} (moves x here p q S Z j act takes where_is player store g
 turn_few n U k (ends x here p q S Z j faults takes where_is player store goes fits may) h = h
 turn_few n U k (root lost masked thrown due none may) h = h
 
-come_few : (code : Block) (U : Given) {G : Game} → Comes code U G → Few (3 * work code) G.players
+come_few : (code : Block) (U : Given) {G : Game} → MadeByTurns code U G → Few (3 * work code) G.players
 come_few code U opens = let e : steps (items code [] Empty) ≡ 3 * work code + 0 = steps_items code [] 0 Empty in (omega (arith, e), tt)
 come_few code U (turns {k = k} c free t) = turn_few (3 * work code) U k t (come_few code U c)
 

@@ -1,7 +1,7 @@
 -- What a term plays it makes in so many steps.
 use Rattle.std.proofs.Common.{ℕ, suc, Bool, true, false, List, [], ◌∷◌, refl}
 use Rattle.std.specs.List.{filter_map}
-use Rattle.rx_rules.proofs.Common.{PlaceId, Term, Vars, does, Starts, Plays, Begins, EachPlays, Tells, birth_of, travels, cell_of, journal_at, moves_from}
+use Rattle.rx_rules.proofs.Common.{PlaceId, Term, Vars, does, Starts, Plays, BeginsWithArrival, EachPlays, Tells, birth_of, travels, cell_of, journal_at, moves_from}
 use Rattle.rx_rules.specs.declared.entries.Act.TheVariants.{Open, At as Calls, Spawn, Arrive, Wait, Release, End, Print, Census}
 use Rattle.rx_rules.specs.declared.entries.Entry.{Entry}
 use Rattle.rx_rules.specs.declared.events.Cell.{Cell}
@@ -18,7 +18,7 @@ plays_work (rules.asks le fits so p) = let r = plays_work p in (suc r.0, asks fi
 plays_work (rules.ends le e) = (1, ends e)
 plays_work rules.stops = (0, stops)
 
-pub begins_work : (starts : Starts) (here : PlaceId) (b : Bool) (low : ℕ) (vars : Vars) (t : Term) (cells : List (ℕ × Cell × List ℕ)) (moves : Moves) → Begins starts here b low vars t cells moves → (n : ℕ) × BeginsWork starts here b n vars t moves
+pub begins_work : (starts : Starts) (here : PlaceId) (b : Bool) (low : ℕ) (vars : Vars) (t : Term) (cells : List (ℕ × Cell × List ℕ)) (moves : Moves) → BeginsWithArrival starts here b low vars t cells moves → (n : ℕ) × BeginsWork starts here b n vars t moves
 begins_work starts here false low vars t cells moves h = plays_work h
 begins_work starts here true low vars t cells [] h = (0, refl)
 begins_work starts here true low vars t cells ((n, Arrive p, batch) ∷ moves) h = plays_work h.1

@@ -4,7 +4,7 @@ use Rattle.std.proofs.Common.{◌≡◌, ℕ, zero, suc, ◌≤◌, List, [], �
 use Rattle.std.specs.List.{filter_map}
 use Rattle.std.proofs.lemmas.List.{length-replicate}
 use Rattle.rx_rules.specs.declared.events.Cell.{Cell}
-use Rattle.rx_sound.proofs.Histories.{no_dead}
+use Rattle.rx_tree_laws.proofs.Histories.{no_dead}
 use Rattle.rx_runs.specs.Ties.{Ties}
 use Rattle.rx_runs.specs.Segments.{stays}
 use Rattle.rx_runs.specs.Games.{TaskSo, going, Pairs, JournalSo, StartsOk, fresh, rests}

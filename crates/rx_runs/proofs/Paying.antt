@@ -1,6 +1,6 @@
 -- What a turn costs the task that acts.
 use Rattle.std.proofs.Common.{ℕ, ◌+◌, ◌≤◌, List, [], Option, Some, None, subst, arith}
-use Rattle.rx_rules.proofs.Common.{PlaceId, TaskId, Term, Does, Local, Makes, Gets, Puts, Forgets, Opens, Calls as Asks, Spawns, Waits, Releases, Prints, Counts, Done, does, granted, child, Answer, answered, Tells, brought, started_by, raised_by, State, Player, Goes, stays, local, stores}
+use Rattle.rx_rules.proofs.Common.{PlaceId, TaskId, Term, Does, Local, Makes, Gets, Puts, Forgets, Opens, Calls as Asks, Spawns, Waits, Releases, Prints, Counts, Done, does, granted, child, Answer, answered, Tells, brought, started_by, raised_by, State, Player, RunsWithoutEntry, stays, local, stores}
 use Rattle.rx_rules.specs.declared.entries.Act.{Act}
 use Rattle.rx_rules.specs.declared.entries.Act.TheVariants.{Open, At as Calls, Spawn, Arrive, Wait, Release, End, Print, Census}
 use Rattle.rx_rules.specs.declared.events.Cell.{Cell}
@@ -46,7 +46,7 @@ store_cost t (Counts name) a s h = absurd h
 store_cost t (Done u) a s h = absurd h
 
 -- local steps and store calls
-pub goes_cost : {heap n : ℕ} {t : TaskId} {here : PlaceId} {p q : Player} {S Z : State} {j k : List PlaceEvent} → Goes heap n t here p S j q Z k → cost q.term ≤ cost p.term
+pub goes_cost : {heap n : ℕ} {t : TaskId} {here : PlaceId} {p q : Player} {S Z : State} {j k : List PlaceEvent} → RunsWithoutEntry heap n t here p S j q Z k → cost q.term ≤ cost p.term
 goes_cost stays = omega arith
 goes_cost {here = here} {p = p} {q = q} (local {after = after} {left = left} e g) =
     let s : Spends p.term (Local after left) = subst (λ (d : Does). Spends p.term d) e (spends p.vars here.0 p.term) in

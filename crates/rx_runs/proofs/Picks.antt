@@ -3,13 +3,13 @@ use Rattle.std.proofs.Common.{◌≡◌, ℕ, zero, suc, true, not, ◌&&◌, �
 use Rattle.std.specs.List.{find}
 use Rattle.std.proofs.lemmas.Bool.{and_parts}
 use Rattle.rx_base.proofs.Options.{none-from}
-use Rattle.rx_rules.specs.declared.tasks.Task.{Task}
 use Rattle.rx_rules.proofs.Common.{Block, Tree, is_task, task_of, quiet, inner, Reached, Given, Game, is_enabled, enabled, tree_in}
-use Rattle.rx_sound.specs.Sound.{Each, Sound}
-use Rattle.rx_sound.proofs.Changes.{each_filter}
-use Rattle.rx_sound.proofs.Reached.{sound}
-use Rattle.rx_sound.proofs.Histories.{fold_reached}
-use Rattle.rx_sound.proofs.Waiting.{each_stands}
+use Rattle.rx_rules.specs.declared.tasks.Task.{Task}
+use Rattle.rx_tree_laws.specs.Sound.{Each, Sound}
+use Rattle.rx_tree_laws.proofs.Changes.{each_filter}
+use Rattle.rx_tree_laws.proofs.Reached.{sound}
+use Rattle.rx_tree_laws.proofs.Histories.{fold_reached}
+use Rattle.rx_tree_laws.proofs.Waiting.{each_stands}
 use Rattle.rx_runs.specs.Games.{GameOk}
 use Rattle.rx_runs.proofs.Keeping.{reverse_at, filter_at}
 

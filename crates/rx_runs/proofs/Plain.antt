@@ -2,7 +2,7 @@
 use Rattle.std.proofs.Common.{◌≡◌, ℕ, zero, suc, ◌%◌, ◌/◌, ◌^◌, ◌<◌, ◌==◌, Bool, true, false, List, [], ◌∷◌, ◌++◌, length, map, filter, cond, slice_get, slice_set, Some, refl, ap, ◌∙◌, sym, subst, arith}
 use Rattle.std.specs.List.{AllByRecursion}
 use Rattle.std.proofs.lemmas.List.{length-map, map-append}
-use Rattle.rx_rules.proofs.Common.{all_places, has_bit, members, PlaceId, ScopeId, PlaceSet, Fault, Dead, Block, Term, Vars, Does, Local, Makes, Gets, Puts, Forgets, Opens, Calls as Asks, Spawns, Waits, Releases, Prints, Counts, Done, does, granted, Tree, the_root, Allowed, MayFree, made, fold_from, opening, brought, vars_told, journal_at, State, Given, NoRoot, EndsWithRoot, NoneDue, IsDue, rest_of, Player, Game, Goes, Turn, IsPicked, none, more, child_of, with_entry, closed_by, enabled, tree_in, start_game}
+use Rattle.rx_rules.proofs.Common.{all_places, has_bit, members, PlaceId, ScopeId, PlaceSet, Fault, Dead, Block, Term, Vars, Does, Local, Makes, Gets, Puts, Forgets, Opens, Calls as Asks, Spawns, Waits, Releases, Prints, Counts, Done, does, granted, Tree, the_root, Allowed, MayFree, made, fold_from, opening, brought, vars_told, journal_at, State, Given, NoRoot, EndsWithRoot, NoneDue, IsDue, rest_of, Player, Game, RunsWithoutEntry, Turn, IsPicked, none, more, child_of, with_entry, closed_by, enabled, tree_in, start_game}
 use Rattle.rx_rules.specs.declared.tasks.Task.{Task}
 use Rattle.rx_rules.specs.declared.entries.Act.{Act}
 use Rattle.rx_rules.specs.declared.entries.Act.TheVariants.{Open, At as Calls, Spawn, Arrive, Wait, Release, End, Print, Census}
@@ -228,9 +228,9 @@ module _ (U : Given) (k : ℕ) (G : Game) where
   may e h = subst (λ T. Allowed T (plain e)) (sym tree) (allowed_plain (tree_in U G) e h)
 
   walks : (x : Task) (here : PlaceId) (p q : Player) (S Z : State) (j : List PlaceEvent)
-      → Goes U.heap (length G.entries) x.number here p S (journal_at G.journals here.0) q Z j
-      → Goes U.heap (length (map plain G.entries)) x.number here p S (journal_at G.journals here.0) q Z j
-  walks x here p q S Z j h = subst (λ n. Goes U.heap n x.number here p S (journal_at G.journals here.0) q Z j) (sym long) h
+      → RunsWithoutEntry U.heap (length G.entries) x.number here p S (journal_at G.journals here.0) q Z j
+      → RunsWithoutEntry U.heap (length (map plain G.entries)) x.number here p S (journal_at G.journals here.0) q Z j
+  walks x here p q S Z j h = subst (λ n. RunsWithoutEntry U.heap n x.number here p S (journal_at G.journals here.0) q Z j) (sym long) h
 
   -- the game after an act
   abbrev acted : Task → PlaceId → Player → List Fault → Vars → List Player → State → List PlaceEvent → List Entry → Game

@@ -1,5 +1,10 @@
 -- The release of the root ends a run.
-use Rattle.rx_rules.proofs.Common.{Vars, PlaceSet, Fault, Term, Block, births, births_of, opening, Birth, Begins, Plays, EachPlays, birth_of, travels, cell_of, journal_at, moves_from, State, Given, in_all, Event, plan_of, IsRun, AllJournals, EndsWithRoot, ClosesAt, death_number, NoneDue, Player, Game, Turn, tree_in, NoRoot}
+use Rattle.rx_rules.proofs.Common.{Vars, PlaceSet, Fault, Term, Block, births, births_of, opening, Birth, BeginsWithArrival, Plays, EachPlays, birth_of, travels, cell_of, journal_at, moves_from, State, Given, in_all, Event, plan_of, IsRun, AllJournals, EndsWithRoot, ClosesAt, death_number, NoneDue, Player, Game, Turn, tree_in, NoRoot}
+use Rattle.rx_rules.specs.declared.entries.Act.{Act}
+use Rattle.rx_rules.specs.declared.events.Cell.{Cell}
+use Rattle.rx_rules.specs.declared.entries.Entry.{Entry}
+use Rattle.rx_rules.specs.declared.entries.Entry.TheVariants.{Step, Root, Death, Join}
+use Rattle.rx_rules.specs.declared.events.PlaceEvent.{PlaceEvent}
 use Rattle.std.proofs.Common.{◌≡◌, ℕ, suc, ◌+◌, Bool, true, List, [], ◌∷◌, ◌++◌, length, Option, refl, ◌∙◌, sym, subst, arith, inl, inr}
 use Rattle.std.specs.List.{filter_map}
 use Rattle.std.proofs.lemmas.List.{append-nil}
@@ -21,20 +26,20 @@ use Rattle.rx_rules.proofs.Deaths.{death-push}
 use Rattle.rx_runs.proofs.Pushes.{plan-push, moves-push, birth-push}
 
 -- what a task has played, whether it goes on or not
-pub landed : {starts : List (Term × Vars)} (b : Birth) (start : Term × Vars) (cells : List (ℕ × Cell × List ℕ)) (moves rest : List (ℕ × Act × List (List ℕ))) (low : ℕ) → Landed b moves low rest → Plays starts b.to low start.1 start.0 [] cells rest → Begins starts b.to (travels b) b.low start.1 start.0 cells moves
+pub landed : {starts : List (Term × Vars)} (b : Birth) (start : Term × Vars) (cells : List (ℕ × Cell × List ℕ)) (moves rest : List (ℕ × Act × List (List ℕ))) (low : ℕ) → Landed b moves low rest → Plays starts b.to low start.1 start.0 [] cells rest → BeginsWithArrival starts b.to (travels b) b.low start.1 start.0 cells moves
 landed {starts = starts} b start cells moves rest low (inl h) p =
     let at_low : Plays starts b.to b.low start.1 start.0 [] cells rest = subst (λ (l : ℕ). Plays starts b.to l start.1 start.0 [] cells rest) h.2 p in
     let made : Plays starts b.to b.low start.1 start.0 [] cells moves = subst (λ (ms : List (ℕ × Act × List (List ℕ))). Plays starts b.to b.low start.1 start.0 [] cells ms) (sym h.1) at_low in
-    subst (λ (t : Bool). Begins starts b.to t b.low start.1 start.0 cells moves) (sym h.0) made
+    subst (λ (t : Bool). BeginsWithArrival starts b.to t b.low start.1 start.0 cells moves) (sym h.0) made
 landed {starts = starts} b start cells moves rest low (inr h) p =
     let at_low : Plays starts b.to (suc h.0) start.1 start.0 [] cells rest = subst (λ (l : ℕ). Plays starts b.to l start.1 start.0 [] cells rest) h.3 p in
-    subst (λ (t : Bool). Begins starts b.to t b.low start.1 start.0 cells moves) (sym h.1)
-    (subst (λ (ms : List (ℕ × Act × List (List ℕ))). Begins starts b.to true b.low start.1 start.0 cells ms) (sym h.2) (refl, at_low))
+    subst (λ (t : Bool). BeginsWithArrival starts b.to t b.low start.1 start.0 cells moves) (sym h.1)
+    (subst (λ (ms : List (ℕ × Act × List (List ℕ))). BeginsWithArrival starts b.to true b.low start.1 start.0 cells ms) (sym h.2) (refl, at_low))
 
-pub begun : {starts : List (Term × Vars)} {size : ℕ} {b : Birth} {start : Term × Vars} {cells : List (ℕ × Cell × List ℕ)} {moves : List (ℕ × Act × List (List ℕ))} {p : Player} → TaskSo starts size b start cells moves p → Begins starts b.to (travels b) b.low start.1 start.0 cells moves
+pub begun : {starts : List (Term × Vars)} {size : ℕ} {b : Birth} {start : Term × Vars} {cells : List (ℕ × Cell × List ℕ)} {moves : List (ℕ × Act × List (List ℕ))} {p : Player} → TaskSo starts size b start cells moves p → BeginsWithArrival starts b.to (travels b) b.low start.1 start.0 cells moves
 begun {starts = starts} {b = b} {start = start} {cells = cells} {moves = moves} (away t m c e le) =
-    subst (λ (v : Bool). Begins starts b.to v b.low start.1 start.0 cells moves) (sym t)
-    (subst (λ (ms : List (ℕ × Act × List (List ℕ))). Begins starts b.to true b.low start.1 start.0 cells ms) (sym m) c)
+    subst (λ (v : Bool). BeginsWithArrival starts b.to v b.low start.1 start.0 cells moves) (sym t)
+    (subst (λ (ms : List (ℕ × Act × List (List ℕ))). BeginsWithArrival starts b.to true b.low start.1 start.0 cells ms) (sym m) c)
 begun {b = b} {start = start} {cells = cells} {moves = moves} (going low now rest l g le) = landed b start cells moves rest low l (stopped g)
 begun (over e h) = h
 
@@ -45,8 +50,8 @@ each_root starts es js lost masked thrown n (s ∷ ss) [] h = absurd h
 each_root starts es js lost masked thrown n (s ∷ ss) (p ∷ ps) h =
     let same : birth_of (es ++ Root lost masked thrown ∷ []) n ≡ birth_of es n = birth-push 0 es (Root lost masked thrown) n refl in
     let made : moves_from 0 (es ++ Root lost masked thrown ∷ []) n ≡ moves_from 0 es n = moves-push 0 es (Root lost masked thrown) n ∙ append-nil (moves_from 0 es n) in (
-      subst (λ (b : Birth). Begins starts b.to (travels b) b.low s.1 s.0 (filter_map (cell_of n) (journal_at js b.to.0)) (moves_from 0 (es ++ Root lost masked thrown ∷ []) n)) (sym same)
-          (subst (λ (ms : List (ℕ × Act × List (List ℕ))). Begins starts (birth_of es n).to (travels (birth_of es n)) (birth_of es n).low s.1 s.0 (filter_map (cell_of n) (journal_at js (birth_of es n).to.0)) ms) (sym made) (begun h.0)),
+      subst (λ (b : Birth). BeginsWithArrival starts b.to (travels b) b.low s.1 s.0 (filter_map (cell_of n) (journal_at js b.to.0)) (moves_from 0 (es ++ Root lost masked thrown ∷ []) n)) (sym same)
+          (subst (λ (ms : List (ℕ × Act × List (List ℕ))). BeginsWithArrival starts (birth_of es n).to (travels (birth_of es n)) (birth_of es n).low s.1 s.0 (filter_map (cell_of n) (journal_at js (birth_of es n).to.0)) ms) (sym made) (begun h.0)),
       each_root starts es js lost masked thrown (suc n) ss ps h.1,
     )
 

@@ -12,13 +12,13 @@ use Rattle.rx_rules.specs.declared.tasks.Kind.{Kind}
 use Rattle.rx_rules.specs.declared.tasks.Kind.TheVariants.{Finish, Call}
 use Rattle.rx_rules.specs.declared.entries.Act.{Act}
 use Rattle.rx_rules.specs.declared.entries.Act.TheVariants.{Open, At as Calls, Spawn, Arrive, Wait, Release, End, Print, Census}
-use Rattle.rx_sound.specs.Sound.{Each, TasksFall, Sound}
-use Rattle.rx_sound.proofs.Changes.{each_found, each_filter}
-use Rattle.rx_sound.proofs.Stay.{faulted}
-use Rattle.rx_sound.proofs.Releasing.{leaves}
-use Rattle.rx_sound.proofs.Owning.{kept}
-use Rattle.rx_sound.proofs.Below.{own_stays}
-use Rattle.rx_sound.proofs.Waiting.{each_stands, OpenersBelow}
+use Rattle.rx_tree_laws.specs.Sound.{Each, TasksFall, Sound}
+use Rattle.rx_tree_laws.proofs.Changes.{each_found, each_filter}
+use Rattle.rx_tree_laws.proofs.Stay.{faulted}
+use Rattle.rx_tree_laws.proofs.Releasing.{leaves}
+use Rattle.rx_tree_laws.proofs.Owning.{kept}
+use Rattle.rx_tree_laws.proofs.Below.{own_stays}
+use Rattle.rx_tree_laws.proofs.Waiting.{each_stands, OpenersBelow}
 use Rattle.rx_runs.specs.Framing.{kinds_of}
 
 -- Look-ups.

@@ -9,9 +9,9 @@ use Rattle.rx_rules.specs.declared.entries.Act.TheVariants.{Open, At as Calls, S
 use Rattle.rx_rules.specs.declared.entries.Entry.{Entry}
 use Rattle.rx_rules.specs.declared.entries.Entry.TheVariants.{Step, Root, Death, Join}
 use Rattle.rx_rules.proofs.Numbers.{next-made}
-use Rattle.rx_sound.proofs.Reach.{task_below}
-use Rattle.rx_sound.proofs.Reached.{sound}
-use Rattle.rx_sound.proofs.Histories.{reached_now, dead-now}
+use Rattle.rx_tree_laws.proofs.Reach.{task_below}
+use Rattle.rx_tree_laws.proofs.Reached.{sound}
+use Rattle.rx_tree_laws.proofs.Histories.{reached_now, dead-now}
 use Rattle.rx_runs.specs.Ties.{Moves}
 
 -- A number for each act.

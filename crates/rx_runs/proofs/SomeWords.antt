@@ -1,6 +1,6 @@
 -- Each `new` of the terms of a game that turns have made asks for at least one word, where the script's do.
 use Rattle.std.proofs.Common.{◌≡◌, ℕ, zero, suc, ℤ, ◌<◌, ◌==◌, nat_le, Bool, true, false, cond, List, [], ◌∷◌, ◌++◌, Option, Some, None, Result, Ok, Err, slice_get, slice_set, subst}
-use Rattle.rx_rules.proofs.Common.{PlaceId, TaskId, Fault, Thrown, WrongPlace, Number, Block, Nothing, Then, Stmt, SetTo, New, Get, Put, Forget, Census, Print, Throw, Async, AtAsync, At, Finish, If, Repeat, Try, Vars, Term, Empty, Run, Raise, Turns, Trying, Body, Held, items, items_from, at, Answer, Gives, Fine, Fails, answered, Does, Local, Makes, Gets, Puts, Forgets, Opens, Calls, Spawns, Waits, Releases, Prints, Counts, Done, raise, bound, value_of, ref_in, eval, target_of, is_zero, catches, with_number, with_place, stmt_does, within, trying_does, body_does, does, stmt_granted, or_raise, body_granted, granted, stmt_child, child, replaced, after_it, State, brought, started_by, Given, Player, Game, Goes, stays, local, stores, Turn, planned, arrives, moves, root, Comes, turns, acted, child_of}
+use Rattle.rx_rules.proofs.Common.{PlaceId, TaskId, Fault, Thrown, WrongPlace, Number, Block, Nothing, Then, Stmt, SetTo, New, Get, Put, Forget, Census, Print, Throw, Async, AtAsync, At, Finish, If, Repeat, Try, Vars, Term, Empty, Run, Raise, Turns, Trying, Body, Held, items, items_from, at, Answer, Gives, Fine, Fails, answered, Does, Local, Makes, Gets, Puts, Forgets, Opens, Calls, Spawns, Waits, Releases, Prints, Counts, Done, raise, bound, value_of, ref_in, eval, target_of, is_zero, catches, with_number, with_place, stmt_does, within, trying_does, body_does, does, stmt_granted, or_raise, body_granted, granted, stmt_child, child, replaced, after_it, State, brought, started_by, Given, Player, Game, RunsWithoutEntry, stays, local, stores, Turn, planned, arrives, moves, root, MadeByTurns, turns, acted, child_of}
 use Rattle.rx_rules.specs.declared.events.PlaceEvent.{PlaceEvent}
 use Rattle.rx_rules.specs.Picked.{ends, opens}
 use Rattle.rx_runs.specs.SomeWords.{StmtMakesSome, MakesSome, TermMakesSome, AsksSome, ComesSome, GoesSome}
@@ -219,7 +219,7 @@ some-child (Held rest) h = tt
 
 -- Games.
 
-goes : {heap n : ℕ} {t : TaskId} {here : PlaceId} {p q : Player} {S Z : State} {j k : List PlaceEvent} → Goes heap n t here p S j q Z k → TermMakesSome p.term → TermMakesSome q.term
+goes : {heap n : ℕ} {t : TaskId} {here : PlaceId} {p q : Player} {S Z : State} {j k : List PlaceEvent} → RunsWithoutEntry heap n t here p S j q Z k → TermMakesSome p.term → TermMakesSome q.term
 goes stays h = h
 goes {here = here} {p = p} (local e g) h = goes g (subst (λ (d : Does). Keeps d) e (keeps p.vars here.0 p.term h))
 goes {p = p} (stores cell x a told b may g) h = goes g (some-answered a p.term h)
@@ -259,7 +259,7 @@ turn_some U k {G = G} (moves x here p q S Z j act takes where_is player store go
 turn_some U k (ends x here p q S Z j faults takes where_is player store go done may) h = h
 turn_some U k (root lost masked thrown due none may) h = h
 
-come_some : (code : Block) (U : Given) {G : Game} → MakesSome code → Comes code U G → Each G.players
+come_some : (code : Block) (U : Given) {G : Game} → MakesSome code → MadeByTurns code U G → Each G.players
 come_some code U s opens = (some-items code [] 0 Empty s tt, tt)
 come_some code U s (turns {k = k} c free t) = turn_some U k t (come_some code U s c)
 

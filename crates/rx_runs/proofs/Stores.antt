@@ -29,7 +29,7 @@ other : (t u : ℕ) (b : Bool) → (t == u) ≡ b → t ≢ u → b ≡ false
 other t u true e h = absurd (h (eqb-true t u e))
 other t u false e h = refl
 
-pub piece : {heap n : ℕ} {t : TaskId} {here : PlaceId} {p q : Player} {S Z : State} {j k : List PlaceEvent} (starts : List (Term × Vars)) (low : ℕ) → low ≤ n → picked.Goes heap n t here p S j q Z k → Piece starts heap n t here low p S j q Z k
+pub piece : {heap n : ℕ} {t : TaskId} {here : PlaceId} {p q : Player} {S Z : State} {j k : List PlaceEvent} (starts : List (Term × Vars)) (low : ℕ) → low ≤ n → picked.RunsWithoutEntry heap n t here p S j q Z k → Piece starts heap n t here low p S j q Z k
 piece starts low le picked.stays = record { new = []; now = low; added = sym (append-nil _); leads = rests; low_now = le; goes = stays; home = λ es r b h. tt; rising = tt; top = tt; unclosed = refl; mine = λ u h. refl }
 piece starts low le (picked.local e g) =
     let more = piece starts low le g in

@@ -13,7 +13,7 @@ use Rattle.rx_rules.specs.declared.entries.Entry.TheVariants.{Step, Death, Join}
 use Rattle.rx_rules.specs.declared.tasks.Task.{Task}
 use Rattle.rx_rules.specs.declared.tasks.Blow.{Blow}
 use Rattle.rx_rules.proofs.Append.{end-tasks}
-use Rattle.rx_sound.proofs.Blows.{hit_number, hit_place}
+use Rattle.rx_tree_laws.proofs.Blows.{hit_number, hit_place}
 use Rattle.rx_runs.specs.Ties.{Moves, is_end, has_end, HasLanded, PlaceSo, RowSo, RowsSo, Ties}
 use Rattle.rx_runs.proofs.Pushes.{moves-push, birth-push}
 use Rattle.rx_runs.proofs.Journals.{death_same, other_death, own_death}

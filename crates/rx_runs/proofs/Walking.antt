@@ -2,12 +2,13 @@
 use Rattle.std.proofs.Common.{◌≡◌, ℕ, zero, suc, ℤ, ◌+◌, ◌<◌, ◌≤◌, Bool, true, false, nat_le, List, [], ◌∷◌, ◌++◌, Option, Some, None, ◌⊎◌, refl, ap, ◌∙◌, sym, subst, arith, ⊎_elim, inl, inr}
 use Rattle.std.specs.List.{list_all}
 use Rattle.std.proofs.lemmas.Bool.{leb-true, false_from_ne_true, and_parts, cases_lt}
-use Rattle.rx_rules.proofs.Common.{PlaceId, TaskId, GlobalRef, Number, Ref, Stale, Index, HeapFull, Answer, Gives, Fine, Fails, answered, vars_after, Does, Local, Makes, Gets, Puts, Forgets, Opens, Calls, Spawns, Waits, Releases, Prints, Counts, Done, does, Tells, begun, State, Live, block_of, fits, is_apart, IsLeastFree, is_index, word_at, MayCell, after_cell, Player, Goes, stays, local, stores}
+use Rattle.rx_rules.proofs.Common.{PlaceId, TaskId, GlobalRef, Number, Ref, Stale, Index, HeapFull, Answer, Gives, Fine, Fails, answered, vars_after, Does, Local, Makes, Gets, Puts, Forgets, Opens, Calls, Spawns, Waits, Releases, Prints, Counts, Done, does, Tells, begun, State, Live, block_of, fits, is_apart, IsLeastFree, is_index, word_at, MayCell, after_cell, Player, RunsWithoutEntry, stays, local, stores}
 use Rattle.rx_rules.specs.declared.events.Cell.{Cell}
-use Rattle.rx_rules.specs.declared.events.Cell.TheVariants.{Make, MakeFull, Get, Put, Forget, GetRefused, PutRefused, ForgetStale}
+use Rattle.rx_rules.specs.declared.events.Cell.TheVariants.{Make, MakeFull, GetRefused, PutRefused, ForgetStale}
 use Rattle.rx_rules.specs.declared.events.PlaceEvent.{PlaceEvent}
 use Rattle.rx_rules.specs.declared.events.PlaceEvent.TheVariants.{Done as Did}
-use Rattle.rx_runs.specs.Framing.{frames, Shape}
+use Rattle.rx_rules.specs.declared.events.Cell.TheVariants.{Get, Put, Forget}
+use Rattle.rx_runs.specs.Framing.{frames, FlatAfterItem}
 use Rattle.rx_runs.specs.Steps.{steps, Sinks}
 use Rattle.rx_runs.proofs.Framing.{Framed, Stored, enough, all_framed}
 use Rattle.rx_runs.proofs.Sinking.{sinks}
@@ -86,14 +87,14 @@ pub record Walked (heap n : ℕ) (t : TaskId) (here : PlaceId) (p : Player) (S :
   pub player : Player
   pub store : State
   pub journal : List PlaceEvent
-  pub goes : Goes heap n t here p S j player store journal
+  pub goes : RunsWithoutEntry heap n t here p S j player store journal
   pub last : IsLast (does player.vars here.0 player.term)
-  pub shape : Shape player.term
+  pub shape : FlatAfterItem player.term
   pub same : frames player.term ≡ frames p.term
 
 module _ (heap n : ℕ) (t : TaskId) (here : PlaceId) where
   abbrev Walks : ℕ → Type 0
-  Walks fuel = (p : Player) (S : State) (j : List PlaceEvent) → steps p.term < fuel → Shape p.term → Walked heap n t here p S j
+  Walks fuel = (p : Player) (S : State) (j : List PlaceEvent) → steps p.term < fuel → FlatAfterItem p.term → Walked heap n t here p S j
 
   by_store : (fuel : ℕ) → Walks fuel → (p : Player) (S : State) (j : List PlaceEvent) (d : Does) → steps p.term < suc fuel → does p.vars here.0 p.term ≡ d → Stored p.term → ((a : Answer) → steps (answered a p.term) + 1 ≤ steps p.term) → Answers heap S here d → Walked heap n t here p S j
   by_store fuel on p S j d less e st sink a =
@@ -104,10 +105,10 @@ module _ (heap n : ℕ) (t : TaskId) (here : PlaceId) where
       let r : Walked heap n t here q (after_cell S a.cell) (j ++ Did t n a.cell x ∷ []) = on q (after_cell S a.cell) (j ++ Did t n a.cell x ∷ []) (omega (arith, fewer, less)) keeps.0 in
       record { player = r.player; store = r.store; journal = r.journal; goes = stores a.cell x a.answer (subst (λ (v : Does). Tells v here a.cell a.answer) (sym e) a.tells) st.1.1 a.may r.goes; last = r.last; shape = r.shape; same = r.same ∙ keeps.1 }
 
-  stopped : (p : Player) (S : State) (j : List PlaceEvent) (d : Does) → does p.vars here.0 p.term ≡ d → IsLast d → Shape p.term → Walked heap n t here p S j
+  stopped : (p : Player) (S : State) (j : List PlaceEvent) (d : Does) → does p.vars here.0 p.term ≡ d → IsLast d → FlatAfterItem p.term → Walked heap n t here p S j
   stopped p S j d e l shape = record { player = p; store = S; journal = j; goes = stays; last = subst IsLast (sym e) l; shape = shape; same = refl }
 
-  by_step : (fuel : ℕ) → Walks fuel → (p : Player) (S : State) (j : List PlaceEvent) (d : Does) → steps p.term < suc fuel → Shape p.term → does p.vars here.0 p.term ≡ d → Framed (enough p.vars here.0) p.term d → Sinks p.term d → Walked heap n t here p S j
+  by_step : (fuel : ℕ) → Walks fuel → (p : Player) (S : State) (j : List PlaceEvent) (d : Does) → steps p.term < suc fuel → FlatAfterItem p.term → does p.vars here.0 p.term ≡ d → Framed (enough p.vars here.0) p.term d → Sinks p.term d → Walked heap n t here p S j
   by_step fuel on p S j (Local after left) less shape e f s =
       let fewer : steps after + 1 ≤ steps p.term = s in
       let r = on (record { term = after; vars = left; batch = begun p.term p.batch }) S j (omega (arith, fewer, less)) f.1.0 in
@@ -129,5 +130,5 @@ module _ (heap n : ℕ) (t : TaskId) (here : PlaceId) where
   walk_in zero p S j less shape = absurd (omega arith)
   walk_in (suc fuel) p S j less shape = by_step fuel (walk_in fuel) p S j (does p.vars here.0 p.term) less shape refl (all_framed p.vars here.0 p.term shape) (sinks p.vars here.0 p.term)
 
-  pub walk : (p : Player) (S : State) (j : List PlaceEvent) → Shape p.term → Walked heap n t here p S j
+  pub walk : (p : Player) (S : State) (j : List PlaceEvent) → FlatAfterItem p.term → Walked heap n t here p S j
   walk p S j shape = walk_in (suc (steps p.term)) p S j (omega arith) shape

@@ -1,5 +1,8 @@
 -- What a task has played, under a longer list of starts and in a longer history.
-use Rattle.rx_rules.proofs.Common.{Vars, TaskId, PlaceId, Term, child, Birth, Plays, Begins, started_by, Player}
+use Rattle.rx_rules.proofs.Common.{Vars, TaskId, PlaceId, Term, child, Birth, Plays, BeginsWithArrival, started_by, Player}
+use Rattle.rx_rules.specs.declared.entries.Act.{Act}
+use Rattle.rx_rules.specs.declared.entries.Act.TheVariants.{Open, At as Calls, Spawn, Arrive, Wait, Release, End, Print, Census}
+use Rattle.rx_rules.specs.declared.events.Cell.{Cell}
 use Rattle.std.proofs.Common.{◌≡◌, ℕ, ◌≤◌, Bool, true, false, List, [], ◌∷◌, Option, Some, None, slice_get, arith}
 use Rattle.rx_rules.specs.declared.entries.Act.{Act}
 use Rattle.rx_rules.specs.declared.entries.Act.TheVariants.{Open, At as Calls, Spawn, Arrive, Wait, Release, End, Print, Census}
@@ -32,7 +35,7 @@ plays_wider {starts = starts} more keeps (rules.asks {vars = vars} {t = t} {act 
 plays_wider more keeps (rules.ends le e) = rules.ends le e
 plays_wider more keeps rules.stops = rules.stops
 
-begins_wider : (starts more : List (Term × Vars)) → Keeps starts more → (here : PlaceId) (travels : Bool) (low : ℕ) (vars : Vars) (t : Term) (cells : List (ℕ × Cell × List ℕ)) (moves : List (ℕ × Act × List (List ℕ))) → Begins starts here travels low vars t cells moves → Begins more here travels low vars t cells moves
+begins_wider : (starts more : List (Term × Vars)) → Keeps starts more → (here : PlaceId) (travels : Bool) (low : ℕ) (vars : Vars) (t : Term) (cells : List (ℕ × Cell × List ℕ)) (moves : List (ℕ × Act × List (List ℕ))) → BeginsWithArrival starts here travels low vars t cells moves → BeginsWithArrival more here travels low vars t cells moves
 begins_wider starts more keeps here false low vars t cells moves h = plays_wider more keeps h
 begins_wider starts more keeps here true low vars t cells [] h = h
 begins_wider starts more keeps here true low vars t cells ((n, Arrive p, batch) ∷ moves) h = (h.0, plays_wider more keeps h.1)

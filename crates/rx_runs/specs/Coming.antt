@@ -2,7 +2,7 @@
 use Rattle.std.specs.Prelude.{◌≡◌, ℕ, ◌+◌, ◌*◌, ◌≤◌, Bool, length}
 use Rattle.rx_rules.specs.Code.{Block, work}
 use Rattle.rx_rules.specs.Run.{Given, Proper, NoRoot}
-use Rattle.rx_rules.specs.Picked.{Game, Turn, Comes, tree_in}
+use Rattle.rx_rules.specs.Picked.{Game, Turn, MadeByTurns, tree_in}
 use Rattle.rx_runs.specs.Games.{GameOk}
 use Rattle.rx_runs.specs.Framing.{TermsFit}
 
@@ -17,9 +17,9 @@ pub record CameTo (code : Block) (U : Given) (G : Game) : Type 0 where
 
 -- a game that turns have made from the opening of a proper setup, whatever the picks
 abbrev pub GamesCome : Type 0
-GamesCome = (code : Block) (U : Given) (G : Game) → Proper U → Comes code U G → NoRoot G.entries → CameTo code U G
+GamesCome = (code : Block) (U : Given) (G : Game) → Proper U → MadeByTurns code U G → NoRoot G.entries → CameTo code U G
 
 -- and a turn can be made, whatever the pick
-abbrev pub GoesOn : Type 0
-GoesOn = (code : Block) (U : Given) (G : Game) → Proper U → Comes code U G → NoRoot G.entries → (k : ℕ) → (used : Bool)
+abbrev pub GamesGoOn : Type 0
+GamesGoOn = (code : Block) (U : Given) (G : Game) → Proper U → MadeByTurns code U G → NoRoot G.entries → (k : ℕ) → (used : Bool)
     × (G' : Game) × Turn U k G used G'

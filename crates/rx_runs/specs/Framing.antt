@@ -37,14 +37,14 @@ Flat (Body inside rest) = ⊥
 Flat (Held rest) = ⊥
 
 -- what comes after an item is flat
-abbrev pub Shape : Term → Type 0
-Shape Empty = Unit {0}
-Shape (Raise faults) = Unit {0}
-Shape (Run stmt x rest) = Flat rest
-Shape (Turns body x k times rest) = Flat rest
-Shape (Trying inside dead_only handler x rest) = Shape inside × Flat rest
-Shape (Body inside rest) = Shape inside × Flat rest
-Shape (Held rest) = Flat rest
+abbrev pub FlatAfterItem : Term → Type 0
+FlatAfterItem Empty = Unit {0}
+FlatAfterItem (Raise faults) = Unit {0}
+FlatAfterItem (Run stmt x rest) = Flat rest
+FlatAfterItem (Turns body x k times rest) = Flat rest
+FlatAfterItem (Trying inside dead_only handler x rest) = FlatAfterItem inside × Flat rest
+FlatAfterItem (Body inside rest) = FlatAfterItem inside × Flat rest
+FlatAfterItem (Held rest) = Flat rest
 
 -- the kinds of the scopes that a task opened and that stand, the newest first
 abbrev pub kinds_of : Tree → TaskId → List Kind
@@ -59,7 +59,7 @@ Match (b ∷ bs) [] = ⊥
 
 -- the term fits to the task's scopes and to whether it waits
 pub record TermFits (kinds : List Kind) (waits : Bool) (t : Term) : Type 0 where
-  pub shape : Shape t
+  pub shape : FlatAfterItem t
   pub frames_are : Match (frames t) kinds
   pub waits_is : waits ≡ first (frames t)
 

@@ -12,7 +12,7 @@ use Rattle.rx_rules.specs.declared.events.PlaceEvent.TheVariants.{Done as Did}
 use Rattle.rx_rules.specs.Code.{Block}
 use Rattle.rx_rules.specs.Terms.{Term, Empty, items}
 use Rattle.rx_rules.specs.Fold.{births}
-use Rattle.rx_rules.specs.Plays.{Birth, Begins, birth_of, travels, cell_of, journal_at, moves_from}
+use Rattle.rx_rules.specs.Plays.{Birth, BeginsWithArrival, birth_of, travels, cell_of, journal_at, moves_from}
 use Rattle.rx_rules.specs.Store.{State, IsStoreRun, opening_state, MayCell, after_cell}
 use Rattle.rx_rules.specs.Run.{Given, in_all, plan_of, Folds, AtHome, NotFalling, ClosesAt, stamp_of, death_number}
 use Rattle.rx_rules.specs.Picked.{Player, Game, Turn, start_game}
@@ -42,7 +42,7 @@ pub data TaskSo (starts : List (Term × Vars)) (size : ℕ) (b : Birth) (start :
   going : (low now : ℕ) (rest : List (ℕ × Act × List (List ℕ))) → Landed b moves low rest
       → StandGoes starts b.to (stand low (fresh start)) cells rest (stand now p) → now ≤ size
       → TaskSo starts size b start cells moves p
-  over : has_end moves ≡ true → Begins starts b.to (travels b) b.low start.1 start.0 cells moves
+  over : has_end moves ≡ true → BeginsWithArrival starts b.to (travels b) b.low start.1 start.0 cells moves
       → TaskSo starts size b start cells moves p
 
 -- the pairs of two lists of one length, from number n on

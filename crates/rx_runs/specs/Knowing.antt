@@ -7,7 +7,7 @@ use Rattle.rx_rules.specs.Code.{Block}
 use Rattle.rx_rules.specs.Terms.{Vars, Term, Local, does}
 use Rattle.rx_rules.specs.Store.{State}
 use Rattle.rx_rules.specs.Run.{Given}
-use Rattle.rx_rules.specs.Picked.{Player, Game, Goes, Turn, Comes, tree_in}
+use Rattle.rx_rules.specs.Picked.{Player, Game, RunsWithoutEntry, Turn, MadeByTurns, tree_in}
 
 -- no task knows of more places than there are
 abbrev pub KnownAreThere : Given → Game → Type 0
@@ -15,7 +15,7 @@ KnownAreThere U G = (n : ℕ) (p : Player) → slice_get G.players n ≡ Some p 
 
 -- so it is in each game that turns have made
 abbrev pub ComesKnowing : Type 0
-ComesKnowing = (code : Block) (U : Given) (G : Game) → Comes code U G → KnownAreThere U G
+ComesKnowing = (code : Block) (U : Given) (G : Game) → MadeByTurns code U G → KnownAreThere U G
 
 -- a local step leaves what a task knows
 abbrev pub LocalKnowing : Type 0
@@ -24,7 +24,7 @@ LocalKnowing = (vars left : Vars) (here : ℕ) (t after : Term) → does vars he
 -- local steps and store calls leave what a task knows
 abbrev pub GoesKnowing : Type 0
 GoesKnowing = (heap n : ℕ) (t : TaskId) (here : PlaceId) (p q : Player) (S Z : State) (j k : List PlaceEvent)
-    → Goes heap n t here p S j q Z k → q.vars.places ≡ p.vars.places
+    → RunsWithoutEntry heap n t here p S j q Z k → q.vars.places ≡ p.vars.places
 
 -- in a turn no task comes to know of fewer places, and no place that is there leaves
 abbrev pub TurnKnowing : Type 0

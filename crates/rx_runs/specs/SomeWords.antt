@@ -9,7 +9,7 @@ use Rattle.rx_rules.specs.Terms.{Term, Empty, Run, Raise, Turns, Trying, Body, H
 use Rattle.rx_rules.specs.Terms.{Calls, Spawns, Waits, Releases, Prints, Counts, Done, Vars, does}
 use Rattle.rx_rules.specs.Store.{State}
 use Rattle.rx_rules.specs.Run.{Given}
-use Rattle.rx_rules.specs.Picked.{Player, Game, Goes, Comes}
+use Rattle.rx_rules.specs.Picked.{Player, Game, RunsWithoutEntry, MadeByTurns}
 
 -- so it is in a statement and in a block
 abbrev mutual
@@ -62,11 +62,11 @@ AsksSome (Done faults) = Unit {0}
 
 -- in each game that turns have made from the opening the terms are so, where the script is
 abbrev pub ComesSome : Type 0
-ComesSome = (code : Block) (U : Given) (G : Game) → MakesSome code → Comes code U G → (n : ℕ) (p : Player)
+ComesSome = (code : Block) (U : Given) (G : Game) → MakesSome code → MadeByTurns code U G → (n : ℕ) (p : Player)
     → slice_get G.players n ≡ Some p → TermMakesSome p.term
 
 -- local steps and store calls keep it, and a term that is so asks so
 abbrev pub GoesSome : Type 0
 GoesSome = (heap n : ℕ) (t : TaskId) (here : PlaceId) (p q : Player) (S Z : State) (j k : List PlaceEvent)
-    → Goes heap n t here p S j q Z k → TermMakesSome p.term → TermMakesSome q.term
+    → RunsWithoutEntry heap n t here p S j q Z k → TermMakesSome p.term → TermMakesSome q.term
     × ((vars : Vars) → AsksSome (does vars here.0 q.term))

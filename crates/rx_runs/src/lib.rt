@@ -1,6 +1,6 @@
 //! Picked runs: runs in which a list of numbers tells which of the enabled tasks moves at each turn. Each is a whole run, there
 //! is one for each list of picks and no more than one, and it comes to its end within a bound that the script's work gives. The
-//! crate stands on rx_rules and rx_sound and holds no code but laws over the definitions: each public function has an empty body,
+//! crate stands on rx_rules and rx_tree_laws and holds no code but laws over the definitions: each public function has an empty body,
 //! and its contract is the law. The machine and the programs above it use them; specs/ has the statements, docs/trust.md says
 //! each in words.
 #![tactic(auto)]
@@ -13,7 +13,7 @@ ghost use Rattle.rx_runs.specs.Steps.{TermSinks};
 ghost use Rattle.rx_runs.specs.AnyAnswers.{StepsBounded, MadeBounded, RunIsMade};
 ghost use Rattle.rx_runs.specs.Endings.{EveryoneEnds};
 ghost use Rattle.rx_runs.specs.Framing.{StartsFit, TurnKeepsFit};
-ghost use Rattle.rx_runs.specs.Coming.{GamesCome, GoesOn};
+ghost use Rattle.rx_runs.specs.Coming.{GamesCome, GamesGoOn};
 ghost use Rattle.rx_runs.specs.Left.{FewLeft, GoingSinks};
 ghost use Rattle.rx_runs.specs.SomeWords.{ComesSome, GoesSome};
 ghost use Rattle.rx_runs.specs.Events.{FewEvents, GoingTells};
@@ -112,7 +112,7 @@ pub fn games_come()
 
 /// A law: such a game has a next turn, whatever the pick.
 pub fn games_go_on()
-    ensures { GoesOn }
+    ensures { GamesGoOn }
 {}
 
 /// A law: in each game that turns have made from the opening each task's term has at most `3 * work` steps left.

@@ -2,7 +2,7 @@
 use Rattle.std.proofs.Common.{◌≡◌, ℕ, zero, suc, ◌<◌, Bool, false, cond, ◌==◌, nat_lt, List, [], ◌∷◌, drop, refl, arith, sym, ◌∙◌}
 use Rattle.std.proofs.lemmas.Bool.{eq-eqb, ne_eqb, lt-ltb}
 use Rattle.rx_rules.proofs.Common.{Stmt, Async, AtAsync, At, Finish, If, Repeat, Try, Block, Nothing, Then, is_kept, is_kept_in, before_inside, is_before_in}
-use Rattle.rx_order.specs.declared.marks.Mark.{Mark}
+use Rattle.rx_order.specs.declared.marks.Role.{Role}
 use Rattle.rx_order.specs.Marks.{mark_of, marks, marks_in}
 use Rattle.rx_span.specs.Paths.{Names, NamesIn}
 use Rattle.rx_span.specs.Inside.Kept.{kept_from, leads}
@@ -45,7 +45,7 @@ mutual
   kept-marks_in (Then first rest) (suc i) x n = kept-marks_in rest i x n
 
 -- a position always leads as far as it is kept
-leads-mark : (s : Stmt) (ms : List Mark) → leads (mark_of s ∷ ms) ≡ kept_from (mark_of s ∷ ms)
+leads-mark : (s : Stmt) (ms : List Role) → leads (mark_of s ∷ ms) ≡ kept_from (mark_of s ∷ ms)
 leads-mark (Async body) ms = refl
 leads-mark (AtAsync place body) ms = refl
 leads-mark (Finish body) ms = refl

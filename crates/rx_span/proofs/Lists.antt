@@ -7,9 +7,9 @@ use Rattle.std.proofs.lemmas.List.Sorted.{Contains-permutation, sum_by-IsPermuta
 use Rattle.std.proofs.lemmas.List.{map-append, reverse-append}
 use Rattle.std.proofs.lemmas.List.Sums.{sum_by-cons}
 use Rattle.rx_rules.proofs.Common.{Block}
-use Rattle.rx_laws.specs.Once.{IsNone, AllDiffer}
-use Rattle.rx_laws.proofs.Paths.{comes-trans, comes-other}
-use Rattle.rx_span.specs.Paths.{IsPath, ArePaths, Comes}
+use Rattle.rx_history_laws.specs.Once.{IsNone, AllDiffer}
+use Rattle.rx_history_laws.proofs.Paths.{comes-trans, comes-other}
+use Rattle.rx_span.specs.Paths.{IsPath, ArePaths, ComesBefore}
 use Rattle.rx_span.specs.Chains.{In, AllIn}
 use Rattle.rx_span.specs.Inside.Sorting.{comes, Below, Descends, next_of, backwards}
 use Rattle.rx_span.proofs.Sharing.{comes-true, true-comes, comes-either}
@@ -104,14 +104,14 @@ all-member P (y ∷ ys) x h (inr i) = all-member P ys x h.1 i
 -- each comes before all later ones
 abbrev pub Ascends : List (List ℕ) → Type 0
 Ascends [] = Unit {0}
-Ascends (x ∷ xs) = All (Comes x) xs × Ascends xs
+Ascends (x ∷ xs) = All (ComesBefore x) xs × Ascends xs
 
-below-at : (x : List ℕ) (xs : List (List ℕ)) (j : ℕ) → Below x xs → j < length xs → Comes (next_of j xs) x
+below-at : (x : List ℕ) (xs : List (List ℕ)) (j : ℕ) → Below x xs → j < length xs → ComesBefore (next_of j xs) x
 below-at x [] j h l = absurd (omega arith)
 below-at x (y ∷ ys) zero h l = comes-true y x h.0
 below-at x (y ∷ ys) (suc j) h l = below-at x ys j h.1 (omega arith)
 
-pub descends-at : (xs : List (List ℕ)) (i j : ℕ) → Descends xs → i < j → j < length xs → Comes (next_of j xs) (next_of i xs)
+pub descends-at : (xs : List (List ℕ)) (i j : ℕ) → Descends xs → i < j → j < length xs → ComesBefore (next_of j xs) (next_of i xs)
 descends-at [] i j h m l = absurd (omega arith)
 descends-at (x ∷ xs) i zero h m l = absurd (omega arith)
 descends-at (x ∷ xs) zero (suc j) h m l = below-at x xs j h.0 (omega arith)
@@ -121,8 +121,8 @@ pub all-back : (P : List ℕ → Type 0) (xs : List (List ℕ)) (k : ℕ) → ((
 all-back P xs zero f = tt
 all-back P xs (suc k) f = (f k (omega arith), all-back P xs k (λ i l. f i (omega arith)))
 
-pub next-comes : (xs : List (List ℕ)) (k : ℕ) → Descends xs → k < length xs → All (Comes (next_of k xs)) (backwards k xs)
-next-comes xs k h l = all-back (Comes (next_of k xs)) xs k (λ i m. descends-at xs i k h m l)
+pub next-comes : (xs : List (List ℕ)) (k : ℕ) → Descends xs → k < length xs → All (ComesBefore (next_of k xs)) (backwards k xs)
+next-comes xs k h l = all-back (ComesBefore (next_of k xs)) xs k (λ i m. descends-at xs i k h m l)
 
 pub ascends-back : (xs : List (List ℕ)) (k : ℕ) → Descends xs → k ≤ length xs → Ascends (backwards k xs)
 ascends-back xs zero h l = tt
@@ -137,7 +137,7 @@ paths-back code xs k h l = all-back (IsPath code) xs k (λ i m. path-in code xs 
 abbrev same : List ℕ → List ℕ → ℕ
 same x y = cond (comes x y) 0 (cond (comes y x) 0 1)
 
-other_comes : (x y : List ℕ) → (Comes x y → ⊥) → comes x y ≡ false
+other_comes : (x y : List ℕ) → (ComesBefore x y → ⊥) → comes x y ≡ false
 other_comes x y n = false_from_ne_true (comes x y) (λ e. n (comes-true x y e))
 
 same-self : (x : List ℕ) → same x x ≡ 1
@@ -146,24 +146,24 @@ same-self x = rw (other_comes x x (comes-other x)) refl
 same-other : (x y : List ℕ) → (x ≡ y → ⊥) → same x y ≡ 0
 same-other x y n = by_order (comes-either x y)
   where
-    by_order : (x ≡ y) ⊎ (Comes x y ⊎ Comes y x) → same x y ≡ 0
+    by_order : (x ≡ y) ⊎ (ComesBefore x y ⊎ ComesBefore y x) → same x y ≡ 0
     by_order (inl e) = absurd (n e)
     by_order (inr (inl h)) = rw (true-comes x y h) refl
     by_order (inr (inr h)) = rw (other_comes x y (λ k. comes-other x (comes-trans x y x k h)), true-comes y x h) refl
 
 -- x is y or comes after it, where it does not come before it
-not_before : (x y : List ℕ) → comes x y ≡ false → (x ≡ y) ⊎ Comes y x
+not_before : (x y : List ℕ) → comes x y ≡ false → (x ≡ y) ⊎ ComesBefore y x
 not_before x y e =
-    ⊎_elim (λ (i : x ≡ y). inl i) (λ (h : Comes x y ⊎ Comes y x). ⊎_elim (λ (k : Comes x y). absurd (true≢false (sym (true-comes x y k) ∙ e))) (λ (k : Comes y x). inr k) h) (comes-either x y)
+    ⊎_elim (λ (i : x ≡ y). inl i) (λ (h : ComesBefore x y ⊎ ComesBefore y x). ⊎_elim (λ (k : ComesBefore x y). absurd (true≢false (sym (true-comes x y k) ∙ e))) (λ (k : ComesBefore y x). inr k) h) (comes-either x y)
 
-from_not_before : (x y : List ℕ) → (x ≡ y) ⊎ Comes y x → comes x y ≡ false
-from_not_before x y (inl e) = other_comes x y (λ k. comes-other x (subst (Comes x) (sym e) k))
+from_not_before : (x y : List ℕ) → (x ≡ y) ⊎ ComesBefore y x → comes x y ≡ false
+from_not_before x y (inl e) = other_comes x y (λ k. comes-other x (subst (ComesBefore x) (sym e) k))
 from_not_before x y (inr h) = other_comes x y (λ k. comes-other x (comes-trans x y x k h))
 
-after-after : (x y z : List ℕ) → (y ≡ x) ⊎ Comes x y → (z ≡ y) ⊎ Comes y z → (z ≡ x) ⊎ Comes x z
+after-after : (x y z : List ℕ) → (y ≡ x) ⊎ ComesBefore x y → (z ≡ y) ⊎ ComesBefore y z → (z ≡ x) ⊎ ComesBefore x z
 after-after x y z (inl e) (inl f) = inl (f ∙ e)
-after-after x y z (inl e) (inr k) = inr (subst (λ w. Comes w z) e k)
-after-after x y z (inr h) (inl f) = inr (subst (Comes x) (sym f) h)
+after-after x y z (inl e) (inr k) = inr (subst (λ w. ComesBefore w z) e k)
+after-after x y z (inr h) (inl f) = inr (subst (ComesBefore x) (sym f) h)
 after-after x y z (inr h) (inr k) = inr (comes-trans x y z h k)
 
 -- the test is an order
@@ -190,15 +190,15 @@ times-once x (y ∷ ys) h = by_order (comes-either x y) (times-once x ys h.1) (s
     other : (x ≡ y → ⊥) → times x ys ≤ 1 → times x (y ∷ ys) ≡ same x y + times x ys → times x (y ∷ ys) ≤ 1
     other n r e = let z = same-other x y n in omega arith
 
-    by_order : (x ≡ y) ⊎ (Comes x y ⊎ Comes y x) → times x ys ≤ 1 → times x (y ∷ ys) ≡ same x y + times x ys → times x (y ∷ ys) ≤ 1
+    by_order : (x ≡ y) ⊎ (ComesBefore x y ⊎ ComesBefore y x) → times x ys ≤ 1 → times x (y ∷ ys) ≡ same x y + times x ys → times x (y ∷ ys) ≤ 1
     by_order (inl i) r e =
         let z : times x ys ≡ 0 = subst (λ w. times w ys ≡ 0) (sym i) (times-none y ys h.0) in
         let o : same x y ≡ 1 = subst (λ w. same x w ≡ 1) i (same-self x) in
         omega arith
-    by_order (inr (inl k)) r e = other (λ i. comes-other x (subst (Comes x) (sym i) k)) r e
-    by_order (inr (inr k)) r e = other (λ i. comes-other x (subst (λ w. Comes w x) (sym i) k)) r e
+    by_order (inr (inl k)) r e = other (λ i. comes-other x (subst (ComesBefore x) (sym i) k)) r e
+    by_order (inr (inr k)) r e = other (λ i. comes-other x (subst (λ w. ComesBefore w x) (sym i) k)) r e
 
-below-further : (y x : List ℕ) (ys : List (List ℕ)) → Comes y x → Below y ys → Below x ys
+below-further : (y x : List ℕ) (ys : List (List ℕ)) → ComesBefore y x → Below y ys → Below x ys
 below-further y x [] k b = tt
 below-further y x (z ∷ zs) k b = (true-comes z x (comes-trans z y x (comes-true z y b.0) k), below-further y x zs k b.1)
 
@@ -213,10 +213,10 @@ sinks-descends [] h f = tt
 sinks-descends (x ∷ []) h f = (tt, tt)
 sinks-descends (x ∷ y ∷ ys) h f =
     let rest : Descends (y ∷ ys) = sinks-descends (y ∷ ys) h.1 (λ z. (let e = sum_by-cons (same z) x (y ∷ ys) in let l = f z in omega arith)) in
-    let first : Comes y x = by_order (comes-either x y) in
+    let first : ComesBefore y x = by_order (comes-either x y) in
     ((true-comes y x first, below-further y x ys first rest.0), rest)
   where
-    by_order : (x ≡ y) ⊎ (Comes x y ⊎ Comes y x) → Comes y x
+    by_order : (x ≡ y) ⊎ (ComesBefore x y ⊎ ComesBefore y x) → ComesBefore y x
     by_order (inl i) = absurd (
         let a = sum_by-cons (same x) x (y ∷ ys) in
         let b = sum_by-cons (same x) y ys in

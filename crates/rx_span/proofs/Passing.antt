@@ -3,10 +3,10 @@ use Rattle.std.proofs.Common.{◌≡◌, ◌⊎◌, ℕ, zero, suc, ◌+◌, ◌
 use Rattle.std.proofs.lemmas.Bool.{cond_both, cases_lt, eq-eqb}
 use Rattle.std.proofs.lemmas.Option.{slice_get-get_or, slice_get-map, get_or_from_slice_get}
 use Rattle.rx_rules.proofs.Common.{Block}
-use Rattle.rx_order.specs.declared.marks.Mark.{Mark}
+use Rattle.rx_order.specs.declared.marks.Role.{Role}
 use Rattle.rx_order.specs.Marks.{marks_of}
 use Rattle.rx_span.specs.declared.chains.Kept.{Kept}
-use Rattle.rx_span.specs.Paths.{IsPath, ArePaths, Comes}
+use Rattle.rx_span.specs.Paths.{IsPath, ArePaths, ComesBefore}
 use Rattle.rx_span.specs.Inside.Sorting.{shared, Descends, next_of, backwards}
 use Rattle.rx_span.specs.Inside.Best.{may_lead, better, pick, best_chains}
 use Rattle.rx_span.specs.Inside.Kept.{better_kept, follow, past, IsLaid, IsKept, Linked}
@@ -74,7 +74,7 @@ module _ (code : Block) (xs : List (List ℕ)) (n : ℕ) (low : n < length xs) (
   pub table : (rows new : List Kept) (from : ℕ) (passed inside : Kept) → State code y S rows from passed → from ≤ length rows → IsLaid from passed (length y) rows new inside → Table cs (with_head y) (length y) new inside
   table rows new from passed inside st l h = laid cs (with_head y) from (length y) passed inside rows new l st.few st.each st.best h
 
-  pub kept_follows : (rows : List Kept) (inside : Kept) (ms : List Mark) (k : Kept) → Table cs (with_head y) (length y) rows inside → ms ≡ marks_of code y → k ≡ follow ms rows → IsKept cs k (pick (filter (may_lead code y) cs))
+  pub kept_follows : (rows : List Kept) (inside : Kept) (ms : List Role) (k : Kept) → Table cs (with_head y) (length y) rows inside → ms ≡ marks_of code y → k ≡ follow ms rows → IsKept cs k (pick (filter (may_lead code y) cs))
   kept_follows rows inside ms k t e f =
       subst (λ l. IsKept cs l (pick (filter (may_lead code y) cs))) (sym (f ∙ ap (λ u. follow u rows) e))
       (follows-is code y S rows inside is_path (next-comes xs n falls low) (ascends-back xs n falls (omega arith)) (paths-back code xs n paths (omega arith)) t)
@@ -89,7 +89,7 @@ module _ (code : Block) (xs : List (List ℕ)) (n : ℕ) (low : n < length xs) (
       subst (λ m. Linked (best_chains code (backwards m xs)) xs new) (sym (add-one n))
       (subst (Linked (best_chains code (backwards (suc n) xs)) xs) (sym f) (linked-next cs xs links y (pick (filter (may_lead code y) cs)) k h (length_cs ∙ sym e) at g))
 
-  next_first : (next_of (suc n) xs ≡ []) ⊎ Comes (next_of (suc n) xs) y
+  next_first : (next_of (suc n) xs ≡ []) ⊎ ComesBefore (next_of (suc n) xs) y
   next_first =
       ⊎_elim (λ (l : suc n < length xs). inr (descends-at xs n (suc n) falls (omega arith) l)) (λ (l : length xs ≤ suc n). inl (next-past xs (suc n) l)) (cases_lt (suc n) (length xs))
 

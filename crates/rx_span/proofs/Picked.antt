@@ -4,9 +4,9 @@ use Rattle.std.proofs.lemmas.Bool.{ltb-true, ltb-false, true≢false}
 use Rattle.std.specs.List.Sorted.{IsPermutation}
 use Rattle.std.proofs.lemmas.List.Sorted.{length_permutation, IsPermutation-sym}
 use Rattle.rx_rules.proofs.Common.{Block}
-use Rattle.rx_laws.proofs.Paths.{comes-trans, comes-other}
+use Rattle.rx_history_laws.proofs.Paths.{comes-trans, comes-other}
 use Rattle.rx_span.specs.Inside.Sorting.{Descends, backwards}
-use Rattle.rx_span.specs.Paths.{Comes, NotAfter}
+use Rattle.rx_span.specs.Paths.{ComesBefore, NotAfter}
 use Rattle.rx_span.specs.Chains.{In, AllIn, IsChain, IsSpan}
 use Rattle.rx_span.specs.Inside.Best.{may_lead, pick, best_chains}
 use Rattle.rx_span.proofs.Before.{before-comes}
@@ -24,7 +24,7 @@ Every (c ∷ cs) xs = Member c xs × Every cs xs
 -- each comes before all later ones
 abbrev Rises : List (List ℕ) → Type 0
 Rises [] = Unit {0}
-Rises (x ∷ xs) = ((y : List ℕ) → Member y xs → Comes x y) × Rises xs
+Rises (x ∷ xs) = ((y : List ℕ) → Member y xs → ComesBefore x y) × Rises xs
 
 -- c is longer, or as long and not after d
 abbrev NoWorse : List (List ℕ) → List (List ℕ) → Type 0
@@ -50,8 +50,8 @@ module _ (code : Block) where
   not_after-trans (x ∷ c) [] e h k = absurd h
   not_after-trans (x ∷ c) (y ∷ d) [] h k = absurd k
   not_after-trans (x ∷ c) (y ∷ d) (z ∷ e) (inl h) (inl k) = inl (comes-trans x y z h k)
-  not_after-trans (x ∷ c) (y ∷ d) (z ∷ e) (inl h) (inr k) = inl (subst (λ w. Comes x w) k.0 h)
-  not_after-trans (x ∷ c) (y ∷ d) (z ∷ e) (inr h) (inl k) = inl (subst (λ w. Comes w z) (sym h.0) k)
+  not_after-trans (x ∷ c) (y ∷ d) (z ∷ e) (inl h) (inr k) = inl (subst (λ w. ComesBefore x w) k.0 h)
+  not_after-trans (x ∷ c) (y ∷ d) (z ∷ e) (inr h) (inl k) = inl (subst (λ w. ComesBefore w z) (sym h.0) k)
   not_after-trans (x ∷ c) (y ∷ d) (z ∷ e) (inr h) (inr k) = inr (h.0 ∙ k.0, not_after-trans c d e h.1 k.1)
 
   no_worse-same : (c : List (List ℕ)) → NoWorse c c
@@ -71,7 +71,7 @@ module _ (code : Block) where
   abbrev Headed : List (List (List ℕ)) → Type 0
   Headed [] = Unit {0}
   Headed ([] ∷ cs) = ⊥
-  Headed ((x ∷ c) ∷ cs) = ((y : List ℕ) (d : List (List ℕ)) → Member (y ∷ d) cs → Comes x y) × Headed cs
+  Headed ((x ∷ c) ∷ cs) = ((y : List ℕ) (d : List (List ℕ)) → Member (y ∷ d) cs → ComesBefore x y) × Headed cs
 
   in-filter : {X : Type 0} (p : X → Bool) (x : X) (xs : List X) → Member x (filter p xs) → Member x xs × (p x ≡ true)
   in-filter p x [] h = absurd h
@@ -162,14 +162,14 @@ module _ (code : Block) where
   best-headed (x ∷ xs) h = ((λ y d i. (let r = best-is xs (y ∷ d) i in h.0 y (subst (λ w. Member w xs) (sym (cc r.2.2)) r.2.3))), best-headed xs h.1)
 
   -- what follows in a chain comes later
-  chain-after : (y : List ℕ) (d : List (List ℕ)) → IsChain code (y ∷ d) → (m : List ℕ) → Member m d → Comes y m
+  chain-after : (y : List ℕ) (d : List (List ℕ)) → IsChain code (y ∷ d) → (m : List ℕ) → Member m d → ComesBefore y m
   chain-after y [] k m i = absurd i
-  chain-after y (z ∷ d) k m (inl e) = subst (Comes y) (sym e) (before-comes code y z k.0)
+  chain-after y (z ∷ d) k m (inl e) = subst (ComesBefore y) (sym e) (before-comes code y z k.0)
   chain-after y (z ∷ d) k m (inr i) = comes-trans y z m (before-comes code y z k.0) (chain-after z d k.1 m i)
 
-  all_in-later : (x : List ℕ) (xs c : List (List ℕ)) → Every c (x ∷ xs) → ((m : List ℕ) → Member m c → Comes x m) → Every c xs
+  all_in-later : (x : List ℕ) (xs c : List (List ℕ)) → Every c (x ∷ xs) → ((m : List ℕ) → Member m c → ComesBefore x m) → Every c xs
   all_in-later x xs [] a l = tt
-  all_in-later x xs (c ∷ cs) a l = (⊎_elim (λ (e : c ≡ x). absurd (comes-other x (subst (Comes x) e (l c (inl refl))))) (λ (i : Member c xs). i) a.0, all_in-later x xs cs a.1 (λ m i. l m (inr i)))
+  all_in-later x xs (c ∷ cs) a l = (⊎_elim (λ (e : c ≡ x). absurd (comes-other x (subst (ComesBefore x) e (l c (inl refl))))) (λ (i : Member c xs). i) a.0, all_in-later x xs cs a.1 (λ m i. l m (inr i)))
 
   -- no chain is better than the one that begins with the same statement
   chain-reached : (xs : List (List ℕ)) (y : List ℕ) (d : List (List ℕ)) → Rises xs → IsChain code (y ∷ d) → Every (y ∷ d) xs → (c : List (List ℕ)) × Member (y ∷ c) (best_chains code xs) × NoWorse (y ∷ c) (y ∷ d)
@@ -190,7 +190,7 @@ module _ (code : Block) where
           no_worse-trans (pick (filter (may_lead code x) cs)) (z ∷ r.0) (z ∷ d)
           (pick-best (filter (may_lead code x) cs) (z ∷ r.0) (headed-filter (may_lead code x) cs (best-headed xs h.1)) (filter-in (may_lead code x) (z ∷ r.0) cs r.1 k.0)) r.2
   chain-reached (x ∷ xs) y d h k (inr i, a) =
-      let later : (m : List ℕ) → Member m (y ∷ d) → Comes x m = λ m j. ⊎_elim (λ (e : m ≡ y). subst (Comes x) (sym e) (h.0 y i)) (λ (j : Member m d). comes-trans x y m (h.0 y i) (chain-after y d k m j)) j in
+      let later : (m : List ℕ) → Member m (y ∷ d) → ComesBefore x m = λ m j. ⊎_elim (λ (e : m ≡ y). subst (ComesBefore x) (sym e) (h.0 y i)) (λ (j : Member m d). comes-trans x y m (h.0 y i) (chain-after y d k m j)) j in
       let r = chain-reached xs y d h.1 k (i, all_in-later x xs d a (λ m j. later m (inr j))) in
       (r.0, inr r.1, r.2)
 
@@ -221,7 +221,7 @@ in-member x (y ∷ ys) (inr h) = inr (in-member x ys h)
 
 rises-from : (xs : List (List ℕ)) → Ascends xs → Rises xs
 rises-from [] h = tt
-rises-from (x ∷ xs) h = ((λ y m. all-member (Comes x) xs y h.0 (member-in y xs m)), rises-from xs h.1)
+rises-from (x ∷ xs) h = ((λ y m. all-member (ComesBefore x) xs y h.0 (member-in y xs m)), rises-from xs h.1)
 
 every-in : (cs xs ys : List (List ℕ)) → ((x : List ℕ) → In x xs → In x ys) → Every cs xs → AllIn cs ys
 every-in [] xs ys f h = tt
@@ -264,8 +264,8 @@ both_ways [] [] e h k = refl
 both_ways [] (y ∷ d) e h k = absurd (omega arith)
 both_ways (x ∷ c) [] e h k = absurd (omega arith)
 both_ways (x ∷ c) (y ∷ d) e (inl h) (inl k) = absurd (comes-other x (comes-trans x y x h k))
-both_ways (x ∷ c) (y ∷ d) e (inl h) (inr k) = absurd (comes-other x (subst (Comes x) k.0 h))
-both_ways (x ∷ c) (y ∷ d) e (inr h) (inl k) = absurd (comes-other y (subst (Comes y) h.0 k))
+both_ways (x ∷ c) (y ∷ d) e (inl h) (inr k) = absurd (comes-other x (subst (ComesBefore x) k.0 h))
+both_ways (x ∷ c) (y ∷ d) e (inr h) (inl k) = absurd (comes-other y (subst (ComesBefore y) h.0 k))
 both_ways (x ∷ c) (y ∷ d) e (inr h) (inr k) = let r = both_ways c d (omega arith) h.1 k.1 in let s = h.0 in cc
 
 pub one-span : (code : Block) (ys : List (List ℕ)) (m n : ℕ) (c d : List (List ℕ)) → IsSpan code ys m c → IsSpan code ys n d → (m ≡ n) × (c ≡ d)

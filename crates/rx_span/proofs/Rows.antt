@@ -2,7 +2,7 @@
 use Rattle.std.proofs.Common.{◌≡◌, ◌⊎◌, ℕ, zero, suc, ◌+◌, ◌<◌, ◌≤◌, Bool, true, false, cond, ◌&&◌, ◌==◌, nat_lt, nat_le, List, [], ◌∷◌, ◌++◌, length, filter, take, drop, replicate, refl, ap, sym, subst, ◌∙◌, arith, inl, inr, add-zero}
 use Rattle.std.proofs.lemmas.Bool.{cases_lt, eq-eqb, ne_eqb, le-leb, lt-leb, and_left, and_right}
 use Rattle.std.proofs.lemmas.List.{length-take-le, length-append}
-use Rattle.rx_order.specs.declared.marks.Mark.{Mark}
+use Rattle.rx_order.specs.declared.marks.Role.{Role}
 use Rattle.rx_span.specs.declared.chains.Kept.{Kept}
 use Rattle.rx_span.specs.Inside.Best.{better, pick}
 use Rattle.rx_span.specs.Inside.Kept.{none, better_kept, leads, follow, past, IsLaid, IsKept}
@@ -31,17 +31,17 @@ abbrev pub Rows : List Chain → (Chain → ℕ) → ℕ → List Kept → Type 
 Rows cs f d [] = Unit {0}
 Rows cs f d (r ∷ rs) = IsKept cs r (pick (filter (λ c. f c == d) cs)) × Rows cs f (suc d) rs
 
-drop-tail : (ms : List Mark) (d : ℕ) (m : Mark) (rest : List Mark) → drop d ms ≡ m ∷ rest → drop (suc d) ms ≡ rest
+drop-tail : (ms : List Role) (d : ℕ) (m : Role) (rest : List Role) → drop d ms ≡ m ∷ rest → drop (suc d) ms ≡ rest
 drop-tail [] zero m rest e = cc
 drop-tail [] (suc d) m rest e = cc
 drop-tail (n ∷ ms) zero m rest e = cc
 drop-tail (n ∷ ms) (suc d) m rest e = drop-tail ms d m rest e
 
 -- the chains of numbers that lead, from number d on
-abbrev pub led : List Mark → (Chain → ℕ) → ℕ → Chain → Bool
+abbrev pub led : List Role → (Chain → ℕ) → ℕ → Chain → Bool
 led ms f d c = leads (drop (f c) ms) && nat_le d (f c)
 
-pub follow-is : (cs : List Chain) (f : Chain → ℕ) (all : List Mark) → NeverRises f cs → (rows : List Kept) (d : ℕ) (ms : List Mark) → drop d all ≡ ms → length ms ≡ length rows → Each (λ c. f c ≤ d + length rows) cs → Rows cs f d rows → IsKept cs (follow ms rows) (pick (filter (led all f d) cs))
+pub follow-is : (cs : List Chain) (f : Chain → ℕ) (all : List Role) → NeverRises f cs → (rows : List Kept) (d : ℕ) (ms : List Role) → drop d all ≡ ms → length ms ≡ length rows → Each (λ c. f c ≤ d + length rows) cs → Rows cs f d rows → IsKept cs (follow ms rows) (pick (filter (led all f d) cs))
 follow-is cs f all falls [] d [] e l few h =
     kept-is cs none [] (pick (filter (led all f d) cs)) (ap pick (sym (filter-none (led all f d) cs (each-map (λ c. f c ≤ d + 0) (λ c. led all f d c ≡ false) (λ c m. by_number (f c) (omega arith) (cases_lt (f c) d)) cs few)))) (kept-none cs)
   where

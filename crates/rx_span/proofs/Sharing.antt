@@ -5,9 +5,9 @@ use Rattle.std.proofs.lemmas.Bool.Decides.{nat_tests}
 use Rattle.std.proofs.lemmas.List.{drop_all}
 use Rattle.std.proofs.lemmas.Option.{same_Some}
 use Rattle.rx_rules.proofs.Common.{Block, Stmt, Async, AtAsync, At, Finish, If, Repeat, Try, Nothing, Then, comes_before}
-use Rattle.rx_laws.proofs.Paths.{Starts, comes_before-below, starts-not_below}
+use Rattle.rx_history_laws.proofs.Paths.{Starts, comes_before-below, starts-not_below}
 use Rattle.rx_order.specs.Marks.{marks, marks_in, marks_of}
-use Rattle.rx_span.specs.Paths.{Names, NamesIn, IsPath, Comes}
+use Rattle.rx_span.specs.Paths.{Names, NamesIn, IsPath, ComesBefore}
 use Rattle.rx_span.specs.Inside.Sorting.{comes, shared}
 use Rattle.rx_span.specs.Inside.Kept.{leads}
 use Rattle.rx_span.proofs.Forks.{Fork, fork-before_in}
@@ -15,18 +15,18 @@ use Rattle.rx_span.proofs.Forks.{Fork, fork-before_in}
 -- Paths in order.
 
 -- the test
-pub comes-true : (x y : List ℕ) → comes x y ≡ true → Comes x y
+pub comes-true : (x y : List ℕ) → comes x y ≡ true → ComesBefore x y
 comes-true [] [] h = absurd (true≢false (sym h))
 comes-true [] (j ∷ y) h = tt
 comes-true (i ∷ x) [] h = absurd (true≢false (sym h))
 comes-true (i ∷ x) (j ∷ y) h = by_order (comes-true x y) (cases_order i j) h
   where
-    by_order : (comes x y ≡ true → Comes x y) → (i ≡ j) ⊎ ((i < j) ⊎ (j < i)) → cond (i == j) (comes x y) (nat_lt i j) ≡ true → (i < j) ⊎ ((i ≡ j) × Comes x y)
+    by_order : (comes x y ≡ true → ComesBefore x y) → (i ≡ j) ⊎ ((i < j) ⊎ (j < i)) → cond (i == j) (comes x y) (nat_lt i j) ≡ true → (i < j) ⊎ ((i ≡ j) × ComesBefore x y)
     by_order f (inl e) k = inr (e, f (rw (eq-eqb i j e) at k))
     by_order f (inr (inl l)) k = inl l
     by_order f (inr (inr l)) k = inl (ltb-true i j (rw (ne_eqb i j (λ e. omega arith)) at k))
 
-pub true-comes : (x y : List ℕ) → Comes x y → comes x y ≡ true
+pub true-comes : (x y : List ℕ) → ComesBefore x y → comes x y ≡ true
 true-comes [] [] h = absurd h
 true-comes [] (j ∷ y) h = refl
 true-comes (i ∷ x) [] h = absurd h
@@ -34,13 +34,13 @@ true-comes (i ∷ x) (j ∷ y) (inl h) = rw (ne_eqb i j (λ e. omega arith), lt-
 true-comes (i ∷ x) (j ∷ y) (inr h) = rw (eq-eqb i j h.0) (true-comes x y h.1)
 
 -- one of them comes first
-pub comes-either : (x y : List ℕ) → (x ≡ y) ⊎ (Comes x y ⊎ Comes y x)
+pub comes-either : (x y : List ℕ) → (x ≡ y) ⊎ (ComesBefore x y ⊎ ComesBefore y x)
 comes-either [] [] = inl refl
 comes-either [] (j ∷ y) = inr (inl tt)
 comes-either (i ∷ x) [] = inr (inr tt)
 comes-either (i ∷ x) (j ∷ y) = by_order (cases_order i j) (comes-either x y)
   where
-    by_order : (i ≡ j) ⊎ ((i < j) ⊎ (j < i)) → (x ≡ y) ⊎ (Comes x y ⊎ Comes y x) → (i ∷ x ≡ j ∷ y) ⊎ (Comes (i ∷ x) (j ∷ y) ⊎ Comes (j ∷ y) (i ∷ x))
+    by_order : (i ≡ j) ⊎ ((i < j) ⊎ (j < i)) → (x ≡ y) ⊎ (ComesBefore x y ⊎ ComesBefore y x) → (i ∷ x ≡ j ∷ y) ⊎ (ComesBefore (i ∷ x) (j ∷ y) ⊎ ComesBefore (j ∷ y) (i ∷ x))
     by_order (inl e) (inl f) = inl (cc (e, f))
     by_order (inl e) (inr (inl f)) = inr (inl (inr (e, f)))
     by_order (inl e) (inr (inr f)) = inr (inr (inr (sym e, f)))
@@ -76,7 +76,7 @@ shared-right (i ∷ x) [] = omega arith
 shared-right (i ∷ x) (j ∷ y) = cond_both (i == j) (suc (shared x y)) 0 (λ n. n ≤ suc (length y)) (λ e. (let h = shared-right x y in omega arith)) (λ e. omega arith)
 
 -- of three paths in order
-pub shared-min : (x y z : List ℕ) → Comes x y → Comes y z → shared x z ≡ min (shared x y) (shared y z)
+pub shared-min : (x y z : List ℕ) → ComesBefore x y → ComesBefore y z → shared x z ≡ min (shared x y) (shared y z)
 shared-min [] y z h k = omega arith
 shared-min (i ∷ x) [] z h k = absurd h
 shared-min (i ∷ x) (j ∷ y) [] h k = absurd k
@@ -90,7 +90,7 @@ pub shared-min_self : (x y : List ℕ) → shared x y ≡ min (shared x y) (shar
 shared-min_self x y = let e = shared-self y in let h = shared-right x y in omega arith
 
 -- they part there, or the first begins the second
-pub fork-or-start : (x y : List ℕ) → Comes x y → Fork x y (shared x y) ⊎ (Starts x y × (shared x y ≡ length x))
+pub fork-or-start : (x y : List ℕ) → ComesBefore x y → Fork x y (shared x y) ⊎ (Starts x y × (shared x y ≡ length x))
 fork-or-start [] [] h = absurd h
 fork-or-start [] (j ∷ y) h = inr (tt, refl)
 fork-or-start (i ∷ x) [] h = absurd h
@@ -138,7 +138,7 @@ marks_of-all code [] n = absurd n
 marks_of-all code (i ∷ x) n = marks-all_in code i x n
 
 -- of two paths of a script in order, the first is before the second exactly if it leads from where they part
-pub before-leads : (code : Block) (x y : List ℕ) → IsPath code x → IsPath code y → Comes x y → comes_before code x y ≡ leads (drop (shared x y) (marks_of code x))
+pub before-leads : (code : Block) (x y : List ℕ) → IsPath code x → IsPath code y → ComesBefore x y → comes_before code x y ≡ leads (drop (shared x y) (marks_of code x))
 before-leads code [] y n m h = absurd n
 before-leads code (i ∷ x) [] n m h = absurd h
 before-leads code (i ∷ x) (j ∷ y) n m h =

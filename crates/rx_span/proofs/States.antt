@@ -4,7 +4,7 @@ use Rattle.std.proofs.lemmas.Bool.{cond-true, cond-false, eq-eqb, ne_eqb, le-leb
 use Rattle.rx_rules.proofs.Common.{Block}
 use Rattle.rx_order.specs.Marks.{marks_of}
 use Rattle.rx_span.specs.declared.chains.Kept.{Kept}
-use Rattle.rx_span.specs.Paths.{IsPath, Comes}
+use Rattle.rx_span.specs.Paths.{IsPath, ComesBefore}
 use Rattle.rx_span.specs.Inside.Sorting.{shared}
 use Rattle.rx_span.specs.Inside.Best.{may_lead, better, pick, best_chains}
 use Rattle.rx_span.specs.Inside.Kept.{none, better_kept, leads, follow, past, IsKept}
@@ -34,14 +34,14 @@ each-heads : (code : Block) (P : List ℕ → Type 0) (S : List (List ℕ)) → 
 each-heads code P [] h = tt
 each-heads code P (x ∷ S) h = (h.0, each-heads code P S h.1)
 
-pub never-rises : (code : Block) (x : List ℕ) (S : List (List ℕ)) → All (Comes x) S → Ascends S → NeverRises (with_head x) (best_chains code S)
+pub never-rises : (code : Block) (x : List ℕ) (S : List (List ℕ)) → All (ComesBefore x) S → Ascends S → NeverRises (with_head x) (best_chains code S)
 never-rises code x [] h a = tt
 never-rises code x (y ∷ S) h a = (
-  each-map (λ c. Comes y (head_of c)) (λ c. with_head x c ≤ shared x y) (λ c k. (let e = shared-min x y (head_of c) h.0 k in omega arith)) (best_chains code S) (each-heads code (Comes y) S a.0),
+  each-map (λ c. ComesBefore y (head_of c)) (λ c. with_head x c ≤ shared x y) (λ c k. (let e = shared-min x y (head_of c) h.0 k in omega arith)) (best_chains code S) (each-heads code (ComesBefore y) S a.0),
   never-rises code x S h.1 a.1,
 )
 
-may-leads : (code : Block) (x : List ℕ) (S : List (List ℕ)) → IsPath code x → All (Comes x) S → All (IsPath code) S → Each (λ c. may_lead code x c ≡ leads (drop (with_head x c) (marks_of code x))) (best_chains code S)
+may-leads : (code : Block) (x : List ℕ) (S : List (List ℕ)) → IsPath code x → All (ComesBefore x) S → All (IsPath code) S → Each (λ c. may_lead code x c ≡ leads (drop (with_head x c) (marks_of code x))) (best_chains code S)
 may-leads code x [] p h n = tt
 may-leads code x (y ∷ S) p h n = (before-leads code x y p n.0 h.0, may-leads code x S p h.1 n.1)
 
@@ -50,7 +50,7 @@ and_true true = refl
 and_true false = refl
 
 -- what follows x in its best chain
-pub follows-is : (code : Block) (x : List ℕ) (S : List (List ℕ)) (rows : List Kept) (inside : Kept) → IsPath code x → All (Comes x) S → Ascends S → All (IsPath code) S → Table (best_chains code S) (with_head x) (length x) rows inside → IsKept (best_chains code S) (follow (marks_of code x) rows) (pick (filter (may_lead code x) (best_chains code S)))
+pub follows-is : (code : Block) (x : List ℕ) (S : List (List ℕ)) (rows : List Kept) (inside : Kept) → IsPath code x → All (ComesBefore x) S → Ascends S → All (IsPath code) S → Table (best_chains code S) (with_head x) (length x) rows inside → IsKept (best_chains code S) (follow (marks_of code x) rows) (pick (filter (may_lead code x) (best_chains code S)))
 follows-is code x S rows inside p h a n t =
     let cs = best_chains code S in
     let M = marks_of code x in
@@ -105,12 +105,12 @@ module _ (code : Block) (x y : List ℕ) (S : List (List ℕ)) (rows : List Kept
   abbrev o : Chain
   o = y ∷ pick (filter (may_lead code y) cs)
 
-  together : (x ≡ []) ⊎ Comes x y → (z : List ℕ) → Comes y z → shared x z ≡ min p (shared y z)
+  together : (x ≡ []) ⊎ ComesBefore x y → (z : List ℕ) → ComesBefore y z → shared x z ≡ min p (shared y z)
   together (inl e) z h = ap (λ w. shared w z) e ∙ (let q : p ≡ 0 = ap (λ w. shared w y) e in omega arith)
   together (inr k) z h = shared-min x y z k h
 
   -- the chains of this path from number p on
-  late : All (Comes y) S → Ascends S → Table cs (with_head y) (length y) rows inside → IsKept cs (past (drop p rows) inside) (pick (filter (λ c. nat_le p (with_head y c)) cs))
+  late : All (ComesBefore y) S → Ascends S → Table cs (with_head y) (length y) rows inside → IsKept cs (past (drop p rows) inside) (pick (filter (λ c. nat_le p (with_head y c)) cs))
   late h a t =
       let long : length rows ≡ length y = t.long in
       let low : p ≤ length y = shared-right x y in
@@ -120,9 +120,9 @@ module _ (code : Block) (x y : List ℕ) (S : List (List ℕ)) (rows : List Kept
       (subst (λ n. IsKept cs inside (pick (filter (λ c. with_head y c == n) cs))) (sym rest) t.inside)
       (let e : 0 + p ≡ p = omega arith in subst (λ n. Rows cs (with_head y) n (drop p rows)) e (rows-drop cs (with_head y) 0 p rows t.each))
 
-  pub state-next : (x ≡ []) ⊎ Comes x y → All (Comes y) S → Ascends S → Table cs (with_head y) (length y) rows inside → own.length ≡ length o → own.head ≡ length cs → State code x (y ∷ S) rows p (better_kept own (past (drop p rows) inside))
+  pub state-next : (x ≡ []) ⊎ ComesBefore x y → All (ComesBefore y) S → Ascends S → Table cs (with_head y) (length y) rows inside → own.length ≡ length o → own.head ≡ length cs → State code x (y ∷ S) rows p (better_kept own (past (drop p rows) inside))
   state-next first h a t el eh =
-      let others : Each (λ c. with_head x c ≡ min p (with_head y c)) cs = each-map (λ c. Comes y (head_of c)) (λ c. with_head x c ≡ min p (with_head y c)) (λ c k. together first (head_of c) k) cs (each-heads code (Comes y) S h) in
+      let others : Each (λ c. with_head x c ≡ min p (with_head y c)) cs = each-map (λ c. ComesBefore y (head_of c)) (λ c. with_head x c ≡ min p (with_head y c)) (λ c k. together first (head_of c) k) cs (each-heads code (ComesBefore y) S h) in
       record {
         few = ((let e : p ≤ p = omega arith in e), each-map (λ c. with_head x c ≡ min p (with_head y c)) (λ c. with_head x c ≤ p) (λ c e. omega arith) cs others);
         each = rows-next cs (with_head y) (with_head x) p o refl others rows 0 p (omega arith) t.each;

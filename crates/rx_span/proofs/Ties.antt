@@ -2,7 +2,7 @@
 use Rattle.std.proofs.Common.{◌≡◌, ℕ, ◌<◌, List, [], ◌∷◌, ◌++◌, length, Some, slice_get, refl, ap, ◌∙◌, arith, inl, inr}
 use Rattle.rx_base.proofs.Elements.{get-more, get-last}
 use Rattle.rx_span.specs.declared.chains.Kept.{Kept}
-use Rattle.rx_span.specs.Inside.Kept.{Stands, IsKept, Linked}
+use Rattle.rx_span.specs.Inside.Kept.{IsChainOf, IsKept, Linked}
 use Rattle.rx_span.proofs.Picks.{Chain}
 use Rattle.rx_span.proofs.Rows.{kept-more}
 
@@ -16,7 +16,7 @@ pub record Found (cs : List Chain) (xs : List (List ℕ)) (links : List Kept) (h
   pub link_at : slice_get links h ≡ Some link
   pub kept : IsKept cs link rest
 
-pub found : (cs : List Chain) (xs : List (List ℕ)) (links : List Kept) → Linked cs xs links → (h : ℕ) (c : Chain) → Stands cs h c → Found cs xs links h c
+pub found : (cs : List Chain) (xs : List (List ℕ)) (links : List Kept) → Linked cs xs links → (h : ℕ) (c : Chain) → IsChainOf cs h c → Found cs xs links h c
 found [] xs links k h c s = absurd s
 found (d ∷ ds) xs links k h c (inl s) =
     record {

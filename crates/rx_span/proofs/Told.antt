@@ -3,7 +3,7 @@ use Rattle.std.proofs.Common.{◌≡◌, ℕ, zero, suc, ◌+◌, ◌<◌, ◌�
 use Rattle.std.specs.List.{filter_map, cons_option}
 use Rattle.std.proofs.lemmas.Bool.{eq-eqb, cond_both, cases_lt}
 use Rattle.std.proofs.lemmas.Option.{same_Some}
-use Rattle.rx_rules.proofs.Common.{PlaceId, TaskId, Stmt, Async, AtAsync, At, Finish, If, Repeat, Try, Block, Nothing, Then, Term, Empty, Run, Raise, Turns, Trying, Body, Held, Vars, Does, Answer, Gives, Fine, Fails, begins, answered, child, items, no_vars, after_it, Opens, Calls, Spawns, Waits, Releases, Prints, Counts, Plays, asks, ends, stops, Begins, EachPlays, StartsSo, begun, brought, started_by, moves_from, birth_of, travels, cell_of, journal_at, told, own_path, Tree, AllowedAct, made, opening, AllAllowed, births_of, Reached, IsOlder, opens}
+use Rattle.rx_rules.proofs.Common.{PlaceId, TaskId, Stmt, Async, AtAsync, At, Finish, If, Repeat, Try, Block, Nothing, Then, Term, Empty, Run, Raise, Turns, Trying, Body, Held, Vars, Does, Answer, Gives, Fine, Fails, begins, answered, child, items, no_vars, after_it, Opens, Calls, Spawns, Waits, Releases, Prints, Counts, Plays, asks, ends, stops, BeginsWithArrival, EachPlays, StartsSo, begun, brought, started_by, moves_from, birth_of, travels, cell_of, journal_at, told, own_path, Tree, AllowedAct, made, opening, AllAllowed, births_of, Reached, IsOlder, opens}
 use Rattle.rx_rules.specs.declared.events.Cell.{Cell}
 use Rattle.rx_rules.specs.declared.events.PlaceEvent.{PlaceEvent}
 use Rattle.rx_rules.specs.declared.entries.Act.{Act}
@@ -12,13 +12,13 @@ use Rattle.rx_rules.specs.declared.entries.Entry.{Entry}
 use Rattle.rx_rules.specs.declared.entries.Entry.TheVariants.{Step, Root, Death, Join}
 use Rattle.rx_rules.specs.Plays.{local, stores, Fits}
 use Rattle.rx_rules.proofs.Numbers.{next-made}
-use Rattle.rx_sound.proofs.Reach.{task_below}
-use Rattle.rx_sound.proofs.Reached.{sound}
-use Rattle.rx_sound.proofs.Histories.{reached_now, dead-now, none_yet}
+use Rattle.rx_tree_laws.proofs.Reach.{task_below}
+use Rattle.rx_tree_laws.proofs.Reached.{sound}
+use Rattle.rx_tree_laws.proofs.Histories.{reached_now, dead-now, none_yet}
 use Rattle.rx_span.specs.Paths.{Names, NamesIn, IsPath, ArePaths, RunTellsPaths}
-use Rattle.rx_laws.proofs.Straight.{stmt_at, stmt_in, code_at}
-use Rattle.rx_laws.proofs.TermOrder.{IfLocal}
-use Rattle.rx_laws.proofs.TermCode.{Coded, local-coded, replaced-coded, after-coded, granted-coded, child-coded, start-coded}
+use Rattle.rx_history_laws.proofs.Straight.{stmt_at, stmt_in, code_at}
+use Rattle.rx_history_laws.proofs.TermOrder.{IfLocal}
+use Rattle.rx_history_laws.proofs.TermCode.{Coded, local-coded, replaced-coded, after-coded, granted-coded, child-coded, start-coded}
 
 -- where a statement is found, the path names it
 mutual
@@ -102,7 +102,7 @@ module _ (code : Block) (starts : List (Term × Vars)) where
   plays-ok (ends {batch = batch} le e) c h = (are-append code batch [] h tt, (λ d e. cc), tt)
   plays-ok stops c h = tt
 
-  begins-ok : (here : PlaceId) (y : Bool) (low : ℕ) (vars : Vars) (t : Term) (cells : List (ℕ × Cell × List ℕ)) (moves : List (ℕ × Act × List (List ℕ))) → Coded code t → Begins starts here y low vars t cells moves → MovesOk moves
+  begins-ok : (here : PlaceId) (y : Bool) (low : ℕ) (vars : Vars) (t : Term) (cells : List (ℕ × Cell × List ℕ)) (moves : List (ℕ × Act × List (List ℕ))) → Coded code t → BeginsWithArrival starts here y low vars t cells moves → MovesOk moves
   begins-ok here false low vars t cells moves c b = plays-ok b c tt
   begins-ok here true low vars t cells [] c b = tt
   begins-ok here true low vars t cells ((n, Arrive p, batch) ∷ moves) c b =

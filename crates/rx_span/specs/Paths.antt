@@ -43,14 +43,14 @@ RunTellsPaths =
     (code : Block) (U : Given) (es : List Entry) (js : List (List PlaceEvent)) → IsRun code U es js → ArePaths code (told es)
 
 -- x comes before y, number by number from the front; a path comes before those that go on from it
-abbrev pub Comes : List ℕ → List ℕ → Type 0
-Comes [] [] = ⊥
-Comes [] (j ∷ y) = Unit {0}
-Comes (i ∷ x) [] = ⊥
-Comes (i ∷ x) (j ∷ y) = (i < j) ⊎ ((i ≡ j) × Comes x y)
+abbrev pub ComesBefore : List ℕ → List ℕ → Type 0
+ComesBefore [] [] = ⊥
+ComesBefore [] (j ∷ y) = Unit {0}
+ComesBefore (i ∷ x) [] = ⊥
+ComesBefore (i ∷ x) (j ∷ y) = (i < j) ⊎ ((i ≡ j) × ComesBefore x y)
 
 -- the list c is d or comes before it, path by path from the front
 abbrev pub NotAfter : List (List ℕ) → List (List ℕ) → Type 0
 NotAfter [] d = Unit {0}
 NotAfter (x ∷ c) [] = ⊥
-NotAfter (x ∷ c) (y ∷ d) = Comes x y ⊎ ((x ≡ y) × NotAfter c d)
+NotAfter (x ∷ c) (y ∷ d) = ComesBefore x y ⊎ ((x ≡ y) × NotAfter c d)

@@ -1,11 +1,11 @@
 // Kept chains, one for each number of a path.
 ghost use Rattle.std.specs.Prelude.{◌≡◌, ◌≤◌, ◌+◌, Bool, List, ◌∷◌, drop, length, IfOk};
-ghost use Rattle.rx_order.specs.declared.marks.Mark.{Mark as Marking};
+ghost use Rattle.rx_order.specs.declared.marks.Role.{Role as Marking};
 ghost use Rattle.rx_span.specs.Inside.Kept.{none, better_kept, kept_from, leads, follow, past, IsLaid};
 
 use crate::Steps;
 use rx_base::NoMemory;
-use rx_order::Mark;
+use rx_order::Role;
 use std::sync::ledger::Ledger;
 
 /// A chain that begins with one of the statements passed so far: how many statements it has, and the number of its first. The empty
@@ -46,33 +46,33 @@ pub(crate) fn better(inner: Kept, outer: Kept) -> Kept
 }
 
 // Whether what is at a greater number in the place of this one follows, where `kept` tells it of the numbers further in.
-fn leads(mark: Mark, kept: bool) -> bool
+fn leads(mark: Role, kept: bool) -> bool
     ensures { (ms : List Marking) → kept ≡ kept_from ms → result ≡ leads (mark ∷ ms) }
 {
     match mark {
-        Mark::Starts => false,
-        Mark::Waits => true,
-        Mark::Follows => kept,
-        Mark::Branches => false,
+        Role::Starts => false,
+        Role::Waits => true,
+        Role::Follows => kept,
+        Role::Branches => false,
     }
 }
 
 // Whether each `async` from this number on has a `finish` before it.
-fn keeps(mark: Mark, kept: bool) -> bool
+fn keeps(mark: Role, kept: bool) -> bool
     ensures { (ms : List Marking) → kept ≡ kept_from ms → result ≡ kept_from (mark ∷ ms) }
 {
     match mark {
-        Mark::Starts => false,
-        Mark::Waits => true,
-        Mark::Follows => kept,
-        Mark::Branches => kept,
+        Role::Starts => false,
+        Role::Waits => true,
+        Role::Follows => kept,
+        Role::Branches => kept,
     }
 }
 
 /// Reads each row of a path once, from the innermost number outwards. `inside` is the best chain that begins inside the statement.
 pub(crate) fn look<L: Ledger>(
     rows: &[Kept],
-    marks: &[Mark],
+    marks: &[Role],
     from: usize,
     inside: Kept,
     steps: &mut Steps<L>,

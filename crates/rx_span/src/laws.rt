@@ -11,7 +11,7 @@ pub fn one_span()
     ensures { OneSpan }
 {}
 
-/// The history of a whole run tells paths of its script alone. With the law that it tells none of them twice, which is rx_laws'
+/// The history of a whole run tells paths of its script alone. With the law that it tells none of them twice, which is rx_history_laws'
 /// `each_is_told_once`, a run meets the conditions of `span` but for the number of its statements.
 pub fn run_tells_paths()
     ensures { RunTellsPaths }

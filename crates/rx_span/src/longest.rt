@@ -3,7 +3,7 @@ ghost use Rattle.std.specs.Prelude.{◌≡◌, ◌<◌, ◌≤◌, ◌+◌, ◌*
 ghost use Rattle.rx_rules.specs.Code.{Block};
 ghost use Rattle.rx_rules.specs.Order.{told};
 ghost use Rattle.rx_syntax.specs.Shape.{Stands};
-ghost use Rattle.rx_laws.specs.Once.{AllDiffer};
+ghost use Rattle.rx_history_laws.specs.Once.{AllDiffer};
 ghost use Rattle.rx_span.specs.Paths.{ArePaths};
 ghost use Rattle.rx_span.specs.Chains.{IsSpan};
 

@@ -3,7 +3,7 @@ ghost use Rattle.std.specs.Prelude.{◌≡◌, ◌++◌, ℕ, List, [], ◌∷�
 ghost use Rattle.std.specs.List.Sorted.{IsPermutation};
 ghost use Rattle.std.specs.Ordering.{is_lt};
 ghost use Rattle.rx_rules.specs.Order.{own_path, told};
-ghost use Rattle.rx_laws.specs.Once.{AllDiffer};
+ghost use Rattle.rx_history_laws.specs.Once.{AllDiffer};
 ghost use Rattle.rx_span.specs.Inside.Sorting.{comes, shared, Descends};
 ghost use Rattle.rx_span.specs.Inside.Copied.{joined, AreCopied};
 

@@ -5,11 +5,11 @@ use Rattle.rx_rules.specs.declared.events.Cell.{Cell}
 use Rattle.rx_rules.specs.declared.events.Cell.TheVariants.{Make, MakeFull, Get, Put, Forget, GetRefused, PutRefused, ForgetStale}
 use Rattle.rx_store.specs.declared.calls.Mark.{Mark}
 use Rattle.rx_store.specs.declared.calls.StoreFault.TheVariants.{Stale, Index}
-use Rattle.rx_store.specs.Kept.{Kept}
+use Rattle.rx_store.specs.Kept.{StoreView}
 use Rattle.rx_store.specs.Asks.{ask_of, makes, gets, puts, forgets}
 use Rattle.rx_store.specs.Answers.{StoreTells, GetAnswers, PutAnswers}
 
-module _ (old new : Kept) (m : Mark) (cell : Cell) (t : StoreTells old new m cell) where
+module _ (old new : StoreView) (m : Mark) (cell : Cell) (t : StoreTells old new m cell) where
   moved : (other : Cell) → cell ≡ other → StoreTells old new m other
   moved other e = subst (λ (z : Cell). StoreTells old new m z) e t
 

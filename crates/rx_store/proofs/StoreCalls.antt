@@ -1,7 +1,7 @@
 -- What the statement that asks the store gives to the call.
 use Rattle.std.proofs.Common.{◌≡◌, ℕ, zero, suc, ℤ, ◌+◌, ◌*◌, ◌^◌, ◌<◌, ◌≤◌, ◌==◌, max, Bool, true, false, cond, List, [], ◌∷◌, ◌++◌, reverse, length, Option, Some, None, Result, Ok, Err, slice_get, slice_set, refl, ap, ◌∙◌, sym, subst, arith}
 use Rattle.std.proofs.lemmas.Bool.{eqb-true}
-use Rattle.rx_rules.proofs.Common.{PlaceId, TaskId, Value, Number, Fault, Thrown, WrongPlace, Block, work, Stmt, SetTo, New, Get, Put, Forget, Print, Census, Throw, Async, AtAsync, At, Finish, If, Repeat, Try, Vars, Term, Empty, Run, Raise, Turns, Trying, Body, Held, items, at, Answer, Gives, Fine, Fails, answered, vars_after, answer_of, Does, Local, Makes, Gets, Puts, Forgets, Opens, Calls, Spawns, Waits, Releases, Prints, Counts, Done, raise, bound, value_of, ref_in, eval, target_of, is_zero, with_number, with_place, stmt_does, within, does, begins, after_it, receives, stmt_receives, Tree, State, opening_state, MayCell, after_cell, Tells, begun, journal_at, Given, in_all, Proper, death_number, Game, Player, Goes, stays, local, stores, tree_in}
+use Rattle.rx_rules.proofs.Common.{PlaceId, TaskId, Value, Number, Fault, Thrown, WrongPlace, Block, work, Stmt, SetTo, New, Get, Put, Forget, Print, Census, Throw, Async, AtAsync, At, Finish, If, Repeat, Try, Vars, Term, Empty, Run, Raise, Turns, Trying, Body, Held, items, at, Answer, Gives, Fine, Fails, answered, vars_after, answer_of, Does, Local, Makes, Gets, Puts, Forgets, Opens, Calls, Spawns, Waits, Releases, Prints, Counts, Done, raise, bound, value_of, ref_in, eval, target_of, is_zero, with_number, with_place, stmt_does, within, does, begins, after_it, receives, stmt_receives, Tree, State, opening_state, MayCell, after_cell, Tells, begun, journal_at, Given, in_all, Proper, death_number, Game, Player, RunsWithoutEntry, stays, local, stores, tree_in}
 use Rattle.rx_base.proofs.SameIds.{place-is}
 use Rattle.rx_base.proofs.Elements.{get-set}
 use Rattle.rx_rules.specs.declared.tasks.Task.{Task}
@@ -23,9 +23,9 @@ use Rattle.rx_history.specs.declared.step.CellOp.TheVariants.{Make, Get as GetWo
 use Rattle.rx_history.specs.declared.step.Next.TheVariants.{Cell as CellStep}
 use Rattle.rx_history.specs.Next.{next_of}
 use Rattle.rx_store.specs.Kepts.{StoresAre}
-use Rattle.rx_store.specs.Asked.{MayAskStore, Receives, Asked}
-use Rattle.rx_sound.specs.TermSteps.{Begins}
-use Rattle.rx_sound.specs.TermSteps.{CallSo}
+use Rattle.rx_store.specs.Asked.{MayAskStore, Receives, CallMade}
+use Rattle.rx_tree_laws.specs.TermSteps.{BeginsStatement}
+use Rattle.rx_tree_laws.specs.TermSteps.{CallSo}
 
 -- what is told of a call, for its statement, the name that waits, the store that may be asked, and the steps that are left
 pub record IsCall (t : Term) (here : PlaceId) (op : CellOp) (d : Does) : Type 0 where
@@ -35,7 +35,7 @@ pub record IsCall (t : Term) (here : PlaceId) (op : CellOp) (d : Does) : Type 0 
   pub sinks : (a : Answer) → steps (answered a t) + 1 ≤ steps t
   pub free : d ≡ Releases → ⊥
 
-pub is_call : (t : Term) (here : PlaceId) (op : CellOp) (d : Does) → next_of d ≡ CellStep op → Begins d (begins t) → CallSo here.0 d (receives t) → AsksSome d → Sinks t d → IsCall t here op d
+pub is_call : (t : Term) (here : PlaceId) (op : CellOp) (d : Does) → next_of d ≡ CellStep op → BeginsStatement d (begins t) → CallSo here.0 d (receives t) → AsksSome d → Sinks t d → IsCall t here op d
 is_call t here op (Local left vars) e b c s k = absurd (let f : ⊥ = cc in f)
 is_call t here (Make n) (Makes name words) e b c s k = record { begins = b; receives = c; may = (let w : words ≡ n = cc in subst (λ (v : ℕ). 0 < v) w s); sinks = k; free = λ f. (let g : ⊥ = cc in g) }
 is_call t here (GetWord r i) (Makes name words) e b c s k = absurd (let f : ⊥ = cc in f)

@@ -8,7 +8,7 @@ use Rattle.rx_rules.specs.declared.events.Cell.{Cell}
 use Rattle.rx_rules.specs.declared.events.Cell.TheVariants.{Make, MakeFull, Get, Put, Forget, GetRefused, PutRefused, ForgetStale}
 use Rattle.rx_rules.specs.Store as law
 use Rattle.rx_store.specs.declared.table.Held.{Held}
-use Rattle.rx_store.specs.Table.{slot_at, Table, TableHolds, Stands, IsTable, Tells, IsLocated, IsUnlocated}
+use Rattle.rx_store.specs.Table.{slot_at, Table, TableHolds, TableStands, IsTable, EventFits, IsLocated, IsUnlocated}
 use Rattle.rx_store.proofs.Holding.{none_fits, least_fits}
 use Rattle.rx_store.proofs.Changing.{make_holds, forget_holds, put_holds, length-made}
 use Rattle.rx_store.proofs.Lookups.{at_table, is_found, located_found, law_stale, law_refused, law_reads, law_get}
@@ -23,7 +23,7 @@ abbrev pub table : Region → List (Option Held) → ℕ → Table
 table R slots made = record { region = R; slots = slots; made = made }
 
 -- no blocks in a heap without any
-pub stands_open : (R : Region) (slots : List (Option Held)) (w : ℕ) → R.words ≡ replicate w (pos 0) → R.lengths ≡ replicate w 0 → IsLaid R → slots ≡ replicate w None → Stands w (table R slots 0) opening_state
+pub stands_open : (R : Region) (slots : List (Option Held)) (w : ℕ) → R.words ≡ replicate w (pos 0) → R.lengths ≡ replicate w 0 → IsLaid R → slots ≡ replicate w None → TableStands w (table R slots 0) opening_state
 stands_open R slots w words lengths laid none =
     let many : length R.words ≡ w = ap (λ (z : List ℤ). length z) words ∙ length-replicate w (pos 0) in
     record {
@@ -45,12 +45,12 @@ stands_open R slots w words lengths laid none =
     get_or-replicated k = get_or_same w k 0
 
 -- what stood for a state stands for one after the event
-pub still_stands : (old new : Table) (cell : Cell) → IsTable old → Tells old new cell → IsTable new
+pub still_stands : (old new : Table) (cell : Cell) → IsTable old → EventFits old new cell → IsTable new
 still_stands old new cell (w, S, stands) tells = (w, after_cell S cell, (tells w S stands).1)
 
 -- n words were taken at b
 pub make_told : (R R' : Region) (slots slots' : List (Option Held)) (made n start : ℕ) (b : Extent) → start ≡ b.start → 0 < n → IsLeastFree R n b.start → b.len ≡ n → IsLaid R' → R'.lengths ≡ set R.lengths b.start n
-    → R'.words ≡ take b.start R.words ++ (replicate n (pos 0) ++ drop (b.start + n) R.words) → slots' ≡ set slots b.start (Some (record { generation = made + 1; block = b })) → Tells (table R slots made) (table R' slots' (made + 1)) (Make n start (made + 1))
+    → R'.words ≡ take b.start R.words ++ (replicate n (pos 0) ++ drop (b.start + n) R.words) → slots' ≡ set slots b.start (Some (record { generation = made + 1; block = b })) → EventFits (table R slots made) (table R' slots' (made + 1)) (Make n start (made + 1))
 make_told R R' slots slots' made n start b begins some least len laid lengths words kept w S stands = (
   (may, generation),
   record {
@@ -86,28 +86,28 @@ make_told R R' slots slots' made n start b begins some least len laid lengths wo
     holds = make_holds R R' slots S.blocks b.start n (made + 1) stands.holds laid some least.here lengths words same
 
 -- no words were free
-pub full_told : (R R' : Region) (slots : List (Option Held)) (made n : ℕ) → R' ≡ R → ((a : ℕ) → IsFree R n a → ⊥) → Tells (table R slots made) (table R' slots made) (MakeFull n)
+pub full_told : (R R' : Region) (slots : List (Option Held)) (made n : ℕ) → R' ≡ R → ((a : ℕ) → IsFree R n a → ⊥) → EventFits (table R slots made) (table R' slots made) (MakeFull n)
 full_told R R' slots made n same none w S stands = (
   subst (λ z. (a : ℕ) → law.fits z S n a ≡ false) stands.words (none_fits R slots S n stands.holds none),
-  subst (λ z. Stands w (table z slots made) S) (sym same) stands,
+  subst (λ z. TableStands w (table z slots made) S) (sym same) stands,
 )
 
 -- a word was read
-pub get_told : (R : Region) (slots now : List (Option Held)) (made : ℕ) (r : GlobalRef) (i v : ℤ) (h : Held) (at : ℕ) → now ≡ slots → IsLocated now r i h at → slice_get R.words (h.block.start + at) ≡ Some v → Tells (table R slots made) (table R slots made) (Get r i v)
+pub get_told : (R : Region) (slots now : List (Option Held)) (made : ℕ) (r : GlobalRef) (i v : ℤ) (h : Held) (at : ℕ) → now ≡ slots → IsLocated now r i h at → slice_get R.words (h.block.start + at) ≡ Some v → EventFits (table R slots made) (table R slots made) (Get r i v)
 get_told R slots now made r i v h at e l read w S stands =
     let f = located_found R slots now S r i h at stands.holds e l in
     (subst (λ z. MayCell z S (Get r i v)) stands.words (law_get R slots S r h i v at f l.index l.within read), stands)
 
 -- what could not be located is refused
-pub get_refused : (R : Region) (slots now : List (Option Held)) (made : ℕ) (r : GlobalRef) (i : ℤ) (stale : Bool) → now ≡ slots → IsUnlocated now r i stale → Tells (table R slots made) (table R slots made) (GetRefused r i stale)
+pub get_refused : (R : Region) (slots now : List (Option Held)) (made : ℕ) (r : GlobalRef) (i : ℤ) (stale : Bool) → now ≡ slots → IsUnlocated now r i stale → EventFits (table R slots made) (table R slots made) (GetRefused r i stale)
 get_refused R slots now made r i stale e none w S stands = (law_refused R slots now S r i stale stands.holds e none, stands)
 
-pub put_refused : (R : Region) (slots now : List (Option Held)) (made : ℕ) (r : GlobalRef) (i v : ℤ) (stale : Bool) → now ≡ slots → IsUnlocated now r i stale → Tells (table R slots made) (table R slots made) (PutRefused r i v stale)
+pub put_refused : (R : Region) (slots now : List (Option Held)) (made : ℕ) (r : GlobalRef) (i v : ℤ) (stale : Bool) → now ≡ slots → IsUnlocated now r i stale → EventFits (table R slots made) (table R slots made) (PutRefused r i v stale)
 put_refused R slots now made r i v stale e none w S stands = (law_refused R slots now S r i stale stands.holds e none, stands)
 
 -- a word was written
 pub put_told : (R R' : Region) (slots now : List (Option Held)) (made : ℕ) (r : GlobalRef) (i v : ℤ) (h : Held) (at : ℕ) → now ≡ slots → IsLocated now r i h at → R' ≡ record R { words = set R.words (h.block.start + at) v } → IsLaid R'
-    → Tells (table R slots made) (table R' slots made) (Put r i v)
+    → EventFits (table R slots made) (table R' slots made) (Put r i v)
 put_told R R' slots now made r i v h at e l wrote laid w S stands =
     let f = located_found R slots now S r i h at stands.holds e l in
     let slot = at_table slots now r.start h e l.slot in
@@ -123,7 +123,7 @@ put_told R R' slots now made r i v h at e l wrote laid w S stands =
 
 -- a block was given back
 pub forget_told : (R R' : Region) (slots slots' : List (Option Held)) (made : ℕ) (r : GlobalRef) (h : Held) → slot_at slots r.start ≡ Some h → h.generation ≡ r.generation → slots' ≡ set slots r.start None → IsLaid R' → R'.words ≡ R.words
-    → R'.lengths ≡ set R.lengths h.block.start 0 → Tells (table R slots made) (table R' slots' made) (Forget r)
+    → R'.lengths ≡ set R.lengths h.block.start 0 → EventFits (table R slots made) (table R' slots' made) (Forget r)
 forget_told R R' slots slots' made r h slot generation gone laid words lengths w S stands =
     let f = is_found R slots S r h stands.holds slot generation in
     let H : List (Option Held) → Type 0 = λ z. TableHolds R' z (filter (λ b. not (is_block r b)) S.blocks) in (
@@ -135,6 +135,6 @@ forget_told R R' slots slots' made r h slot generation gone laid words lengths w
       },
     )
 
-pub forget_stale : (R : Region) (slots slots' : List (Option Held)) (made : ℕ) (r : GlobalRef) → slots' ≡ slots → ((h : Held) → slot_at slots r.start ≡ Some h → h.generation ≡ r.generation → ⊥) → Tells (table R slots made) (table R slots' made) (ForgetStale r)
+pub forget_stale : (R : Region) (slots slots' : List (Option Held)) (made : ℕ) (r : GlobalRef) → slots' ≡ slots → ((h : Held) → slot_at slots r.start ≡ Some h → h.generation ≡ r.generation → ⊥) → EventFits (table R slots made) (table R slots' made) (ForgetStale r)
 forget_stale R slots slots' made r same none w S stands =
-    (law_stale R slots slots S r stands.holds refl none, subst (λ z. Stands w (table R z made) S) (sym same) stands)
+    (law_stale R slots slots S r stands.holds refl none, subst (λ z. TableStands w (table R z made) S) (sym same) stands)

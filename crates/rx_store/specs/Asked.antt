@@ -8,7 +8,7 @@ use Rattle.rx_rules.specs.Store.{MayCell}
 use Rattle.rx_rules.specs.Terms.{Does, Local, Makes, Gets, Puts, Forgets, Opens, Calls, Spawns, Waits, Releases, Prints, Counts, Done}
 use Rattle.rx_rules.specs.Terms.{answer_of}
 use Rattle.rx_rules.specs.Plays.{Tells}
-use Rattle.rx_store.specs.Kept.{Kept, state_of}
+use Rattle.rx_store.specs.Kept.{StoreView, state_of}
 use Rattle.rx_store.specs.Answers.{event_told}
 use Rattle.rx_store.specs.declared.calls.Mark.{Mark}
 use Rattle.rx_history.specs.declared.step.CellOp.{CellOp}
@@ -45,7 +45,7 @@ CallIsTold here op answer cell =
     (d : Does) (o : Option ℕ) → next_of d ≡ CellStep op → Receives d o → Tells d here cell (answer_of o answer)
 
 -- the store, which was open, has made the call and its journal has the event
-pub record Asked (old new : Kept) (m : Mark) (op : CellOp) (answer : Result (Option Value) Fault) : Type 0 where
+pub record CallMade (old new : StoreView) (m : Mark) (op : CellOp) (answer : Result (Option Value) Fault) : Type 0 where
   pub cell : Cell
   pub law : MayCell old.words (state_of old.events) cell
   pub events : new.events ≡ old.events ++ event_told old.events m cell ∷ []

@@ -6,7 +6,7 @@ use Rattle.rx_rules.specs.declared.events.PlaceEvent.TheVariants.{Done, Close}
 use Rattle.rx_rules.specs.Store.{State, opening_state, after_cell}
 
 -- its place, the words of its heap, the events of its journal, and for how many more cell calls there is room
-pub record Kept : Type 0 where
+pub record StoreView : Type 0 where
   pub place : PlaceId
   pub words : ℕ
   pub events : List PlaceEvent

@@ -68,23 +68,23 @@ pub record Table : Type 0 where
   pub made : ℕ
 
 -- they are those of this state of the law, in a heap of w words
-pub record Stands (w : ℕ) (T : Table) (S : State) : Type 0 where
+pub record TableStands (w : ℕ) (T : Table) (S : State) : Type 0 where
   pub words : length T.region.words ≡ w
   pub made_is : T.made ≡ S.made
   pub holds : TableHolds T.region T.slots S.blocks
 
 -- they are those of a state
 abbrev pub IsTable : Table → Type 0
-IsTable T = (w : ℕ) × (S : State) × Stands w T S
+IsTable T = (w : ℕ) × (S : State) × TableStands w T S
 
 -- the law allows the event in the state that they stood for, and they stand for the state after it
-abbrev pub Tells : Table → Table → Cell → Type 0
-Tells old new cell = (w : ℕ) (S : State) → Stands w old S → MayCell w S cell × Stands w new (after_cell S cell)
+abbrev pub EventFits : Table → Table → Cell → Type 0
+EventFits old new cell = (w : ℕ) (S : State) → TableStands w old S → MayCell w S cell × TableStands w new (after_cell S cell)
 
 -- while a store is open its blocks are those that the journal leaves and there is room for the close; then it has none
 abbrev pub KeepsBlocks : ℕ → Option Table → List PlaceEvent → ℕ → Type 0
 KeepsBlocks w None events spare = ends_closed events ≡ true
-KeepsBlocks w (Some T) events spare = (ends_closed events ≡ false) × Stands w T (state_of events) × (0 < spare)
+KeepsBlocks w (Some T) events spare = (ends_closed events ≡ false) × TableStands w T (state_of events) × (0 < spare)
 
 -- for how many more calls there is room: while a store is open one event is for the close
 abbrev pub room_of : Option Table → ℕ → ℕ

@@ -2,7 +2,7 @@
 ghost use Rattle.std.specs.Prelude.{◌≡◌, ◌<◌, ◌^◌, Option, Result, IfOk, OnErr, false, length};
 ghost use Rattle.rx_store.specs.Kept.{ends_closed};
 ghost use Rattle.rx_history.specs.declared.step.CellOp.TheVariants.{Make, Get, Put, Forget};
-ghost use Rattle.rx_store.specs.Asked.{Asked, MayAskStore};
+ghost use Rattle.rx_store.specs.Asked.{CallMade, MayAskStore};
 
 use crate::{Mark, Store, StoreFault};
 use rx_base::{Fault, GlobalRef, NoMemory, Value};
@@ -17,7 +17,7 @@ pub(crate) fn call_store(
     requires open { ends_closed store.old.events ≡ false }
     requires fits { MayAskStore store.old.place op }
     requires events { length store.old.events < 2 ^ 31 }
-    ensures answer { IfOk result (λ answer. Asked store.old store.new m op answer) }
+    ensures answer { IfOk result (λ answer. CallMade store.old store.new m op answer) }
     ensures refused { OnErr result (store.new ≡ store.old) }
 {
     store.reserve(1)?;
@@ -25,14 +25,14 @@ pub(crate) fn call_store(
 }
 
 /// Makes a call of an open store, for which there is room, and gives what the control is to take: a value where one was asked for, or the
-/// fault that the statement raises. The call adds one event. It takes no memory. What it gives is stated by `Asked`, and the rules of
+/// fault that the statement raises. The call adds one event. It takes no memory. What it gives is stated by `CallMade`, and the rules of
 /// stores stand in docs/semantics.md.
 pub fn ask(store: &mut Store, m: Mark, op: CellOp) -> Result<Option<Value>, Fault>
     requires open { ends_closed store.old.events ≡ false }
     requires fits { MayAskStore store.old.place op }
     requires room { 0 < store.old.spare }
     requires events { length store.old.events < 2 ^ 31 }
-    ensures { Asked store.old store.new m op result }
+    ensures { CallMade store.old store.new m op result }
 {
     match op {
         CellOp::Make { words } => ask_make(store, m, words),
@@ -52,7 +52,7 @@ fn ask_make(store: &mut Store, m: Mark, words: u32) -> Result<Option<Value>, Fau
     requires some { 0 < words }
     requires room { 0 < store.old.spare }
     requires events { length store.old.events < 2 ^ 31 }
-    ensures { Asked store.old store.new m (Make words) result }
+    ensures { CallMade store.old store.new m (Make words) result }
 {
     match store.make(m, words) {
         Ok(r) => Ok(Some(Value::Ref(r))),
@@ -67,7 +67,7 @@ fn ask_get(store: &mut Store, m: Mark, r: GlobalRef, index: i64) -> Result<Optio
     requires home { r.home ≡ store.old.place }
     requires room { 0 < store.old.spare }
     requires events { length store.old.events < 2 ^ 31 }
-    ensures { Asked store.old store.new m (Get r index) result }
+    ensures { CallMade store.old store.new m (Get r index) result }
 {
     match store.get(m, r, index) {
         Ok(value) => Ok(Some(Value::Num(value))),
@@ -89,7 +89,7 @@ fn ask_put(
     requires home { r.home ≡ store.old.place }
     requires room { 0 < store.old.spare }
     requires events { length store.old.events < 2 ^ 31 }
-    ensures { Asked store.old store.new m (Put r index value) result }
+    ensures { CallMade store.old store.new m (Put r index value) result }
 {
     match store.put(m, r, index, value) {
         Ok(()) => Ok(None),
@@ -105,7 +105,7 @@ fn ask_forget(store: &mut Store, m: Mark, r: GlobalRef) -> Result<Option<Value>,
     requires home { r.home ≡ store.old.place }
     requires room { 0 < store.old.spare }
     requires events { length store.old.events < 2 ^ 31 }
-    ensures { Asked store.old store.new m (Forget r) result }
+    ensures { CallMade store.old store.new m (Forget r) result }
 {
     match store.forget(m, r) {
         Ok(()) => Ok(None),

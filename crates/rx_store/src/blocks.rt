@@ -3,7 +3,7 @@ ghost use Rattle.std.specs.Prelude.{◌≡◌, ◌-◌, ◌^◌, ◌<◌, ◌≤
 ghost use Rattle.rx_rules.specs.Store.{opening_state};
 ghost use Rattle.rx_store.specs.Asks.{ask_of};
 ghost use Rattle.rx_store.specs.Asks.Ask.{makes, gets, puts, forgets};
-ghost use Rattle.rx_store.specs.Table.{Stands, Tells};
+ghost use Rattle.rx_store.specs.Table.{TableStands, EventFits};
 
 use crate::table::{Held, empty_table, give_all, keep, located, take_out};
 use rx_base::{GlobalRef, NoMemory};
@@ -38,7 +38,7 @@ impl Blocks {
     pub fn open(alloc: Global, words: u32) -> Result<Blocks, NoMemory>
         requires some { 0 < words }
         requires most { words ≤ 4096 }
-        ensures { IfOk result (λ b. Stands words b opening_state) }
+        ensures { IfOk result (λ b. TableStands words b opening_state) }
     {
         let heap = Heap::open(alloc, words)?;
         let slots = empty_table(alloc, words as usize)?;
@@ -54,7 +54,7 @@ impl Blocks {
         requires some { 0 < n }
         requires few { self.old.made < 2 ^ 32 - 1 }
         ensures asked { ask_of result ≡ makes n }
-        ensures told { Tells self.old self.new result }
+        ensures told { EventFits self.old self.new result }
     {
         match self.heap.take(n) {
             Ok(block) => {
@@ -75,7 +75,7 @@ impl Blocks {
     /// Reads the word at an index of a block.
     pub fn get(&self, r: GlobalRef, i: i64) -> Cell
         ensures asked { ask_of result ≡ gets r i }
-        ensures told { Tells self.now self.now result }
+        ensures told { EventFits self.now self.now result }
     {
         match located(&self.slots, r, i) {
             Ok((held, at)) => Cell::Get {
@@ -94,7 +94,7 @@ impl Blocks {
     /// Makes a number the word at an index of a block.
     pub fn put(&mut self, r: GlobalRef, i: i64, v: i64) -> Cell
         ensures asked { ask_of result ≡ puts r i v }
-        ensures told { Tells self.old self.new result }
+        ensures told { EventFits self.old self.new result }
     {
         match located(&self.slots, r, i) {
             Ok((held, word)) => {
@@ -117,7 +117,7 @@ impl Blocks {
     /// Forgets a block.
     pub fn forget(&mut self, r: GlobalRef) -> Cell
         ensures asked { ask_of result ≡ forgets r }
-        ensures told { Tells self.old self.new result }
+        ensures told { EventFits self.old self.new result }
     {
         let Some(held) = take_out(&mut self.slots, r) else {
             return Cell::ForgetStale { target: r };

@@ -26,10 +26,10 @@ pub struct Store {
 }
 
 impl Model for Store {
-    ghost use Rattle.rx_store.specs.Kept.{Kept};
+    ghost use Rattle.rx_store.specs.Kept.{StoreView};
     ghost use Rattle.rx_store.specs.Table.{IsSteady, room_of};
 
-    ghost Value = { Kept };
+    ghost Value = { StoreView };
 
     ghost view = { λ s. record {
       place = s.place;

@@ -2,10 +2,10 @@
 ghost use Rattle.std.specs.Prelude.{◌≡◌, ◌<◌, ◌≤◌, ◌^◌, false, map, replicate, length, slice_get, slice_set, [], ◌∷◌, ◌++◌, Some};
 ghost use Rattle.std.specs.Prelude.{Option, Result, IfOk, OnErr};
 ghost use Rattle.rx_rules.specs.declared.events.PlaceEvent.TheVariants.{Close};
-ghost use Rattle.rx_store.specs.Kept.{Kept, ends_closed, last_stamp};
+ghost use Rattle.rx_store.specs.Kept.{StoreView, ends_closed, last_stamp};
 ghost use Rattle.rx_history.specs.Events.{events_of};
 ghost use Rattle.rx_store.specs.Kepts.{StoresAre};
-ghost use Rattle.rx_store.specs.Asked.{Asked, MayAskStore};
+ghost use Rattle.rx_store.specs.Asked.{CallMade, MayAskStore};
 
 use crate::asking::call_store;
 use crate::{Mark, Store};
@@ -53,10 +53,10 @@ impl Stores {
         m: Mark,
         op: CellOp,
     ) -> Result<Result<Option<Value>, Fault>, NoMemory>
-        requires { (s : Kept) × (slice_get self.old.items here.0 ≡ Some s) × (ends_closed s.events ≡ false) × MayAskStore s.place op
+        requires { (s : StoreView) × (slice_get self.old.items here.0 ≡ Some s) × (ends_closed s.events ≡ false) × MayAskStore s.place op
             × (length s.events < 2 ^ 31) }
-        ensures answer { IfOk result (λ answer. (s : Kept) → slice_get self.old.items here.0 ≡ Some s
-            → (new : Kept) × (self.new.items ≡ slice_set self.old.items here.0 new) × Asked s new m op answer) }
+        ensures answer { IfOk result (λ answer. (s : StoreView) → slice_get self.old.items here.0 ≡ Some s
+            → (new : StoreView) × (self.new.items ≡ slice_set self.old.items here.0 new) × CallMade s new m op answer) }
         ensures refused { OnErr result (self.new ≡ self.old) }
     {
         let store = &mut self.items[here.0 as usize];
@@ -65,8 +65,9 @@ impl Stores {
 
     /// Closes the store of a place that died at this entry. It takes no memory.
     pub fn close(&mut self, place: PlaceId, at: u32)
-        requires { (s : Kept) × (slice_get self.old.items place.0 ≡ Some s) × (ends_closed s.events ≡ false) × (last_stamp s.events ≤ at) }
-        ensures { (s : Kept) → slice_get self.old.items place.0 ≡ Some s
+        requires { (s : StoreView) × (slice_get self.old.items place.0 ≡ Some s) × (ends_closed s.events ≡ false)
+            × (last_stamp s.events ≤ at) }
+        ensures { (s : StoreView) → slice_get self.old.items place.0 ≡ Some s
             → self.new.items ≡ slice_set self.old.items place.0 (record s { events = s.events ++ Close at ∷ [] }) }
     {
         self.items[place.0 as usize].close(at);

@@ -7,9 +7,9 @@ use Rattle.std.proofs.lemmas.Bool.{eqb-true, ne_eqb, ltb-true, ltb-false, lt-ltb
 use Rattle.rx_rules.proofs.Common.{ScopeId, without, Reached, Tree, is_under, is_scope, wants, is_finish, the_root, governing_in, chain_in}
 use Rattle.rx_rules.specs.declared.tasks.Task.{Task}
 use Rattle.rx_rules.specs.declared.tasks.Scope.{Scope}
-use Rattle.rx_sound.specs.Chains.{Falls}
-use Rattle.rx_sound.specs.Sound.{TasksFall, Sound, ReachedSound}
-use Rattle.rx_sound.proofs.Stay.{fall_filter}
+use Rattle.rx_tree_laws.specs.Chains.{Falls}
+use Rattle.rx_tree_laws.specs.Sound.{TasksFall, Sound, ReachedSound}
+use Rattle.rx_tree_laws.proofs.Stay.{fall_filter}
 use Rattle.rx_tree.specs.Inside.Positions.{IsFirst, PassesNone, FallsIn, TasksFallIn, ScopesFallIn, RowsInOrder, BeginsAt}
 
 -- the elements above t stand in front

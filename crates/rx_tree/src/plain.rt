@@ -165,7 +165,7 @@ impl FinishLedger for TreeLedger {
     ghost stands = { λ l room T. (kept l ≡ T) × Reached T };
 
     fn open_finish(&mut self, who: Caller) -> Result<ScopeId, LedgerFault> {
-        rx_sound::reached_is_sound();
+        rx_tree_laws::reached_is_sound();
         if let Some(blow) = self.blow(who.task) {
             return Err(lost_by(blow));
         }
@@ -185,7 +185,7 @@ impl FinishLedger for TreeLedger {
     }
 
     fn spawn(&mut self, who: Caller, to: PlaceId) -> Result<Born, LedgerFault> {
-        rx_sound::reached_is_sound();
+        rx_tree_laws::reached_is_sound();
         if let Some(blow) = self.blow(who.task) {
             return Err(lost_by(blow));
         }
@@ -210,7 +210,7 @@ impl FinishLedger for TreeLedger {
     }
 
     fn open_at(&mut self, who: Caller, to: PlaceId) -> Result<Born, LedgerFault> {
-        rx_sound::reached_is_sound();
+        rx_tree_laws::reached_is_sound();
         if let Some(blow) = self.blow(who.task) {
             return Err(lost_by(blow));
         }
@@ -246,7 +246,7 @@ impl FinishLedger for TreeLedger {
     }
 
     fn arrive(&mut self, who: Caller) -> Result<(), LedgerFault> {
-        rx_sound::reached_is_sound();
+        rx_tree_laws::reached_is_sound();
         if let Some(blow) = self.blow(who.task) {
             return Err(lost_by(blow));
         }
@@ -255,7 +255,7 @@ impl FinishLedger for TreeLedger {
     }
 
     fn wait(&mut self, who: Caller, thrown: Faults) -> Result<(), (LedgerFault, Faults)> {
-        rx_sound::reached_is_sound();
+        rx_tree_laws::reached_is_sound();
         if let Some(blow) = self.blow(who.task) {
             return Err((lost_by(blow), thrown));
         }
@@ -265,7 +265,7 @@ impl FinishLedger for TreeLedger {
     }
 
     fn release(&mut self, who: Caller) -> Result<Outcome, LedgerFault> {
-        rx_sound::reached_is_sound();
+        rx_tree_laws::reached_is_sound();
         if let Some(blow) = self.blow(who.task) {
             return Err(lost_by(blow));
         }
@@ -275,7 +275,7 @@ impl FinishLedger for TreeLedger {
     }
 
     fn end(&mut self, who: Caller, thrown: Faults) -> Result<(), (LedgerFault, Faults)> {
-        rx_sound::reached_is_sound();
+        rx_tree_laws::reached_is_sound();
         if let Some(blow) = self.blow(who.task) {
             return Err((lost_by(blow), thrown));
         }
@@ -287,7 +287,7 @@ impl FinishLedger for TreeLedger {
     }
 
     fn print(&self, who: Caller) -> Result<(), LedgerFault> {
-        rx_sound::reached_is_sound();
+        rx_tree_laws::reached_is_sound();
         match self.blow(who.task) {
             Some(blow) => Err(lost_by(blow)),
             None => Ok(()),
@@ -295,7 +295,7 @@ impl FinishLedger for TreeLedger {
     }
 
     fn census(&self, who: Caller) -> Result<u8, LedgerFault> {
-        rx_sound::reached_is_sound();
+        rx_tree_laws::reached_is_sound();
         match self.blow(who.task) {
             Some(blow) => Err(lost_by(blow)),
             None => Ok(self.places),
@@ -303,12 +303,12 @@ impl FinishLedger for TreeLedger {
     }
 
     fn release_root(&mut self) -> Result<Outcome, LedgerFault> {
-        rx_sound::reached_is_sound();
+        rx_tree_laws::reached_is_sound();
         self.leave(ScopeId(0))
     }
 
     fn ready(&self, who: Caller) -> bool {
-        rx_sound::reached_is_sound();
+        rx_tree_laws::reached_is_sound();
         self.blow(who.task).is_none() && self.is_quiet(who.inner)
     }
 

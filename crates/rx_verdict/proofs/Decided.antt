@@ -1,13 +1,13 @@
 -- Where the verdict is `run`, history and journals are a whole run.
 use Rattle.std.proofs.Common.{◌≡◌, ℕ, zero, suc, ◌+◌, ◌<◌, ◌≤◌, Bool, true, false, List, [], ◌∷◌, length, take, Option, Some, slice_get, refl, ap, sym, subst, ◌∙◌, arith}
 use Rattle.std.proofs.lemmas.List.{take_all}
-use Rattle.rx_rules.proofs.Common.{PlaceId, TaskId, Block, Term, Vars, AllAllowed, opening, births, opens, Cells, Moves, Starts, Plays, Begins, EachPlays, Played, journal_at, birth_of, travels, moves_from, Birth, IsStoreRun, opening_state, Given, Proper, in_all, plan_of, PlanKept, NotFalling, JournalOk, death_number, IsRun}
+use Rattle.rx_rules.proofs.Common.{PlaceId, TaskId, Block, Term, Vars, AllAllowed, opening, births, opens, Cells, Moves, Starts, Plays, BeginsWithArrival, EachPlays, Played, journal_at, birth_of, travels, moves_from, Birth, IsStoreRun, opening_state, Given, Proper, in_all, plan_of, PlanKept, NotFalling, JournalOk, death_number, IsRun}
 use Rattle.rx_rules.specs.declared.entries.Act.TheVariants.{Open, At as Calls, Spawn, Arrive, Wait, Release, End, Print, Census}
 use Rattle.rx_rules.specs.declared.entries.Entry.{Entry}
 use Rattle.rx_rules.specs.declared.events.Cell.{Cell}
 use Rattle.rx_rules.specs.declared.events.PlaceEvent.{PlaceEvent}
 use Rattle.rx_rules.specs.declared.events.PlaceEvent.TheVariants.{Done, Close}
-use Rattle.rx_sound.proofs.Histories.{none_yet}
+use Rattle.rx_tree_laws.proofs.Histories.{none_yet}
 use Rattle.rx_verdict.specs.declared.verdict.Verdict.TheVariants.{Run}
 use Rattle.rx_verdict.specs.Makes.{Makes, MakesEvent, Between, Landing, Made, TaskMakes, TaskMakesEvent, cells_of}
 use Rattle.rx_verdict.specs.Verdicts.{Part, IsMade, IsGood, CauseOf, IsVerdict, VerdictIsRun, events_before}
@@ -46,7 +46,7 @@ landing_each P A E size true low ((n, End thrown, batch) ∷ moves) h f = absurd
 landing_each P A E size true low ((n, Print value x, batch) ∷ moves) h f = absurd h
 landing_each P A E size true low ((n, Census count x, batch) ∷ moves) h f = absurd h
 
-begins_from : (starts : Starts) (here : PlaceId) (b : Bool) (low : ℕ) (vars : Vars) (t : Term) (cells : Cells) (moves : Moves) → Landing (λ low moves. Plays starts here low vars t [] cells moves) (cells ≡ []) b low moves → Begins starts here b low vars t cells moves
+begins_from : (starts : Starts) (here : PlaceId) (b : Bool) (low : ℕ) (vars : Vars) (t : Term) (cells : Cells) (moves : Moves) → Landing (λ low moves. Plays starts here low vars t [] cells moves) (cells ≡ []) b low moves → BeginsWithArrival starts here b low vars t cells moves
 begins_from starts here false low vars t cells moves h = h
 begins_from starts here true low vars t cells [] h = h
 begins_from starts here true low vars t cells ((n, Arrive p, batch) ∷ moves) h = h
@@ -69,13 +69,13 @@ task_rises q es some few a zero =
     subst (λ (b : Birth). Rises b.low (moves_from 0 es 0)) (sym (born_before 0 (opening q) es a 0 (omega arith))) (rises_from 0 es 0)
 task_rises q es some few a (suc t) = rises_birth 0 (opening q) es (opens q some few) none_yet a (suc t) (omega arith)
 
-each_plays : (starts : Starts) (es : List Entry) (js : List (List PlaceEvent)) (n : ℕ) (more : Starts) → ((i : ℕ) (s : Term × Vars) → slice_get more i ≡ Some s → Begins starts (birth_of es (n + i)).to (travels (birth_of es (n + i))) (birth_of es (n + i)).low s.1 s.0 (cells_of es js (n + i)) (moves_from 0 es (n + i))) → EachPlays starts es js n more
+each_plays : (starts : Starts) (es : List Entry) (js : List (List PlaceEvent)) (n : ℕ) (more : Starts) → ((i : ℕ) (s : Term × Vars) → slice_get more i ≡ Some s → BeginsWithArrival starts (birth_of es (n + i)).to (travels (birth_of es (n + i))) (birth_of es (n + i)).low s.1 s.0 (cells_of es js (n + i)) (moves_from 0 es (n + i))) → EachPlays starts es js n more
 each_plays starts es js n [] h = tt
 each_plays starts es js n (s ∷ more) h =
     let at : n + 0 ≡ n = omega arith in (
-      subst (λ (z : ℕ). Begins starts (birth_of es z).to (travels (birth_of es z)) (birth_of es z).low s.1 s.0 (cells_of es js z) (moves_from 0 es z)) at (h 0 s refl),
+      subst (λ (z : ℕ). BeginsWithArrival starts (birth_of es z).to (travels (birth_of es z)) (birth_of es z).low s.1 s.0 (cells_of es js z) (moves_from 0 es z)) at (h 0 s refl),
       each_plays starts es js (suc n) more
-          (λ i r e. let next : n + suc i ≡ suc n + i = omega arith in subst (λ (z : ℕ). Begins starts (birth_of es z).to (travels (birth_of es z)) (birth_of es z).low r.1 r.0 (cells_of es js z) (moves_from 0 es z)) next (h (suc i) r e)),
+          (λ i r e. let next : n + suc i ≡ suc n + i = omega arith in subst (λ (z : ℕ). BeginsWithArrival starts (birth_of es z).to (travels (birth_of es z)) (birth_of es z).low r.1 r.0 (cells_of es js z) (moves_from 0 es z)) next (h (suc i) r e)),
     )
 
 module _ (code : Block) (U : Given) (es : List Entry) (js : List (List PlaceEvent)) (proper : Proper U) (one_each : length js ≡ in_all U) (v : IsVerdict code U es js Run) where
@@ -125,7 +125,7 @@ module _ (code : Block) (U : Given) (es : List Entry) (js : List (List PlaceEven
       let start : o.start ≡ s = cc (got, e) in
       subst (λ (z : Starts × (Term × Vars)). TaskMakesEvent Between z.0 es js t z.1 k) {x = (o.starts, o.start)} {y = (starts, s)} (λ i. (same i, start i)) o.event
 
-  begins : (t : ℕ) (s : Term × Vars) → slice_get starts t ≡ Some s → Begins starts (birth_of es t).to (travels (birth_of es t)) (birth_of es t).low s.1 s.0 (cells_of es js t) (moves_from 0 es t)
+  begins : (t : ℕ) (s : Term × Vars) → slice_get starts t ≡ Some s → BeginsWithArrival starts (birth_of es t).to (travels (birth_of es t)) (birth_of es t).low s.1 s.0 (cells_of es js t) (moves_from 0 es t)
   begins t s e =
       let cells : Cells = cells_of es js t in
       let b : Birth = birth_of es t in
@@ -145,7 +145,7 @@ module _ (code : Block) (U : Given) (es : List Entry) (js : List (List PlaceEven
         starts = starts;
         main = made.main;
         all = made.all;
-        each = each_plays starts es js 0 starts (λ i s e. let at : i ≡ 0 + i = omega arith in subst (λ (z : ℕ). Begins starts (birth_of es z).to (travels (birth_of es z)) (birth_of es z).low s.1 s.0 (cells_of es js z) (moves_from 0 es z)) at (begins i s e));
+        each = each_plays starts es js 0 starts (λ i s e. let at : i ≡ 0 + i = omega arith in subst (λ (z : ℕ). BeginsWithArrival starts (birth_of es z).to (travels (birth_of es z)) (birth_of es z).low s.1 s.0 (cells_of es js z) (moves_from 0 es z)) at (begins i s e));
       }
 
   home : (p e : ℕ) (u : TaskId) (stamp : ℕ) (cell : Cell) (x : List ℕ) → slice_get (journal_at js p) e ≡ Some (Done u stamp cell x) → (u.0 < 1 + births es) × ((birth_of es u.0).to.0 ≡ p)

@@ -8,7 +8,7 @@ use Rattle.rx_rules.specs.declared.entries.Entry.{Entry}
 use Rattle.rx_rules.specs.declared.events.Cell.{Cell}
 use Rattle.rx_rules.specs.declared.events.PlaceEvent.{PlaceEvent}
 use Rattle.rx_rules.specs.Plays.{Fits}
-use Rattle.rx_sound.proofs.Histories.{none_yet}
+use Rattle.rx_tree_laws.proofs.Histories.{none_yet}
 use Rattle.rx_verdict.specs.Makes.{Makes, local, stores, asks, ends, stops, Landing, Made, TaskMakes, EachMakes, cells_of}
 use Rattle.rx_runs.proofs.NextSteps.{told_once, not_told_and_fits, not_local_told, not_local_fits, not_done_told, not_done_fits, not_local_done}
 use Rattle.rx_verdict.proofs.Births.{Has, StartsTask, parent}

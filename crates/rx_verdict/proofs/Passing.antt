@@ -12,8 +12,8 @@ use Rattle.rx_rules.specs.declared.entries.Entry.{Entry}
 use Rattle.rx_rules.specs.declared.entries.Entry.TheVariants.{Step, Root, Death, Join}
 use Rattle.rx_rules.specs.declared.events.PlaceEvent.{PlaceEvent}
 use Rattle.rx_runs.specs.Games.{fresh}
-use Rattle.rx_sound.proofs.Births.{birth-other, births-left}
-use Rattle.rx_sound.proofs.Histories.{reached_now, dead-now, none_yet}
+use Rattle.rx_tree_laws.proofs.Births.{birth-other, births-left}
+use Rattle.rx_tree_laws.proofs.Histories.{reached_now, dead-now, none_yet}
 use Rattle.rx_rules.proofs.Numbers.{next-tree}
 use Rattle.rx_runs.proofs.Append.{allowed-push}
 use Rattle.rx_runs.proofs.Pushes.{moves-push, birth-push}

@@ -3,7 +3,7 @@ use Rattle.std.proofs.Common.{◌≡◌, ℕ, zero, suc, ◌+◌, ◌<◌, ◌�
 use Rattle.rx_rules.specs.declared.events.PlaceEvent.{PlaceEvent}
 use Rattle.rx_rules.proofs.Common.{State, opening_state, stamp_of}
 use Rattle.rx_store.specs.Kept.{state_of, last_stamp}
-use Rattle.rx_store.specs.Table.{Table, Stands}
+use Rattle.rx_store.specs.Table.{Table, TableStands}
 use Rattle.rx_store.proofs.Running.{made_from}
 use Rattle.rx_kills.proofs.Dying.{take-next}
 use Rattle.rx_verdict.specs.Lawful.{AreLawful, IsLawfulCount}
@@ -31,7 +31,7 @@ module _ (w : ℕ) (blocks : Table) (last : ℕ) (closed : Bool) (j : List Place
       let told = f w (state_of (take i j)) h.stands in
       subst (λ done. Replayed w new last' closed' done) shape (record {
         lawful = lawful-more w (take i j) e (sym h.closed_is ∙ o) h.lawful (may (told.0.0 y));
-        stands = subst (λ (S : State). Stands w new S) (sym (state-next (take i j) e)) (told.1 y);
+        stands = subst (λ (S : State). TableStands w new S) (sym (state-next (take i j) e)) (told.1 y);
         last_is = l ∙ sym (stamp-next (take i j) e);
         closed_is = c ∙ sym (closed-next (take i j) e);
       })

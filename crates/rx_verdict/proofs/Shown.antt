@@ -3,7 +3,7 @@ use Rattle.std.proofs.Common.{◌≡◌, ◌⊎◌, ℕ, zero, suc, ◌+◌, ◌
 use Rattle.std.specs.List.{filter_map, cons_option}
 use Rattle.std.proofs.lemmas.Bool.{cases_lt, cases_eq}
 use Rattle.std.proofs.lemmas.List.Sums.{sum_by-cons}
-use Rattle.rx_rules.proofs.Common.{PlaceId, TaskId, Block, Term, Vars, child, Tree, made, made_act, AllAllowed, opening, births, births_of, Cells, Moves, Starts, Plays, Begins, EachPlays, Birth, StartsSo, cell_of, journal_at, birth_of, birth_from, travels, moves_from, started_by, opening_state, Given, in_all, Event, plan_of, PlanKept, rest_of, EndsWithRoot, JournalOk, death_number, IsRun}
+use Rattle.rx_rules.proofs.Common.{PlaceId, TaskId, Block, Term, Vars, child, Tree, made, made_act, AllAllowed, opening, births, births_of, Cells, Moves, Starts, Plays, BeginsWithArrival, EachPlays, Birth, StartsSo, cell_of, journal_at, birth_of, birth_from, travels, moves_from, started_by, opening_state, Given, in_all, Event, plan_of, PlanKept, rest_of, EndsWithRoot, JournalOk, death_number, IsRun}
 use Rattle.rx_rules.specs.declared.entries.Act.{Act}
 use Rattle.rx_rules.specs.declared.entries.Act.TheVariants.{Open, At as Calls, Spawn, Arrive, Wait, Release, End, Print, Census}
 use Rattle.rx_rules.specs.declared.entries.Entry.{Entry}
@@ -11,7 +11,7 @@ use Rattle.rx_rules.specs.declared.entries.Entry.TheVariants.{Step, Root, Death,
 use Rattle.rx_rules.specs.declared.events.PlaceEvent.{PlaceEvent}
 use Rattle.rx_rules.specs.declared.events.PlaceEvent.TheVariants.{Done, Close}
 use Rattle.rx_rules.proofs.Numbers.{next-made}
-use Rattle.rx_sound.proofs.Births.{from-other, from-here, births-left}
+use Rattle.rx_tree_laws.proofs.Births.{from-other, from-here, births-left}
 use Rattle.rx_runs.specs.Rooted.{RootIsLast}
 use Rattle.rx_runs.proofs.RootLast.{root_last-ends}
 use Rattle.rx_verdict.specs.declared.verdict.Verdict.TheVariants.{Run}
@@ -208,7 +208,7 @@ each_makes starts es js n (s ∷ more) h =
 
 -- What is played is made.
 
-begins_to : (starts : Starts) (here : PlaceId) (b : Bool) (low : ℕ) (vars : Vars) (t : Term) (cells : Cells) (moves : Moves) → Begins starts here b low vars t cells moves → Landing (λ low moves. Plays starts here low vars t [] cells moves) (cells ≡ []) b low moves
+begins_to : (starts : Starts) (here : PlaceId) (b : Bool) (low : ℕ) (vars : Vars) (t : Term) (cells : Cells) (moves : Moves) → BeginsWithArrival starts here b low vars t cells moves → Landing (λ low moves. Plays starts here low vars t [] cells moves) (cells ≡ []) b low moves
 begins_to starts here false low vars t cells moves h = h
 begins_to starts here true low vars t cells [] h = h
 begins_to starts here true low vars t cells ((n, Arrive p, batch) ∷ moves) h = h
@@ -221,15 +221,15 @@ begins_to starts here true low vars t cells ((n, End thrown, batch) ∷ moves) h
 begins_to starts here true low vars t cells ((n, Print value x, batch) ∷ moves) h = absurd h
 begins_to starts here true low vars t cells ((n, Census count x, batch) ∷ moves) h = absurd h
 
-begins_at : (starts : Starts) (es : List Entry) (js : List (List PlaceEvent)) (n : ℕ) (more : Starts) → EachPlays starts es js n more → (i : ℕ) (s : Term × Vars) → slice_get more i ≡ Some s → Begins starts (birth_of es (n + i)).to (travels (birth_of es (n + i))) (birth_of es (n + i)).low s.1 s.0 (cells_of es js (n + i)) (moves_from 0 es (n + i))
+begins_at : (starts : Starts) (es : List Entry) (js : List (List PlaceEvent)) (n : ℕ) (more : Starts) → EachPlays starts es js n more → (i : ℕ) (s : Term × Vars) → slice_get more i ≡ Some s → BeginsWithArrival starts (birth_of es (n + i)).to (travels (birth_of es (n + i))) (birth_of es (n + i)).low s.1 s.0 (cells_of es js (n + i)) (moves_from 0 es (n + i))
 begins_at starts es js n [] h i s e = absurd (let f : ⊥ = cc in f)
 begins_at starts es js n (x ∷ more) h zero s e =
     let same : x ≡ s = cc in
     let at : n + 0 ≡ n = omega arith in
-    subst (λ (z : ℕ × (Term × Vars)). Begins starts (birth_of es z.0).to (travels (birth_of es z.0)) (birth_of es z.0).low z.1.1 z.1.0 (cells_of es js z.0) (moves_from 0 es z.0)) {x = (n, x)} {y = (n + 0, s)} (λ j. (sym at j, same j)) h.0
+    subst (λ (z : ℕ × (Term × Vars)). BeginsWithArrival starts (birth_of es z.0).to (travels (birth_of es z.0)) (birth_of es z.0).low z.1.1 z.1.0 (cells_of es js z.0) (moves_from 0 es z.0)) {x = (n, x)} {y = (n + 0, s)} (λ j. (sym at j, same j)) h.0
 begins_at starts es js n (x ∷ more) h (suc i) s e =
     let at : suc n + i ≡ n + suc i = omega arith in
-    subst (λ (z : ℕ). Begins starts (birth_of es z).to (travels (birth_of es z)) (birth_of es z).low s.1 s.0 (cells_of es js z) (moves_from 0 es z)) at (begins_at starts es js (suc n) more h.1 i s e)
+    subst (λ (z : ℕ). BeginsWithArrival starts (birth_of es z).to (travels (birth_of es z)) (birth_of es z).low s.1 s.0 (cells_of es js z) (moves_from 0 es z)) at (begins_at starts es js (suc n) more h.1 i s e)
 
 -- The first n entries are made too, by the terms of the tasks that are born among them.
 module _ (code : Block) (q : ℕ) (es : List Entry) (js : List (List PlaceEvent)) (starting : Starts) (h : Made code q es js starting) (allowed : AllAllowed 0 (opening q) es) (n : ℕ) where
@@ -276,7 +276,7 @@ module _ (code : Block) (U : Given) (es : List Entry) (js : List (List PlaceEven
   plays t s e =
       let at : 0 + t ≡ t = omega arith in
       begins_to starting (birth_of es t).to (travels (birth_of es t)) (birth_of es t).low s.1 s.0 (cells_of es js t) (moves_from 0 es t)
-      (subst (λ (z : ℕ). Begins starting (birth_of es z).to (travels (birth_of es z)) (birth_of es z).low s.1 s.0 (cells_of es js z) (moves_from 0 es z)) at (begins_at starting es js 0 starting r.played.each t s e))
+      (subst (λ (z : ℕ). BeginsWithArrival starting (birth_of es z).to (travels (birth_of es z)) (birth_of es z).low s.1 s.0 (cells_of es js z) (moves_from 0 es z)) at (begins_at starting es js 0 starting r.played.each t s e))
 
   makes : (t : ℕ) (s : Term × Vars) → slice_get starting t ≡ Some s → TaskMakes starting es js t s
   makes t s e =

@@ -13,19 +13,19 @@ use Rattle.rx_rules.specs.declared.events.Cell.TheVariants.{Make, MakeFull, Get,
 use Rattle.rx_rules.specs.declared.events.PlaceEvent.{PlaceEvent}
 use Rattle.rx_rules.specs.declared.events.PlaceEvent.TheVariants.{Done}
 use Rattle.rx_rules.specs.Terms as terms
-use Rattle.rx_sound.proofs.Histories.{none_yet}
+use Rattle.rx_tree_laws.proofs.Histories.{none_yet}
 use Rattle.rx_runs.specs.SomeWords.{MakesSome, TermMakesSome}
 use Rattle.rx_verdict.specs.Makes as parts
 use Rattle.rx_verdict.specs.Makes.{Makes, MakesEvent, StampRule, Landing, Made, cells_of}
 use Rattle.rx_verdict.specs.Verdicts.{CauseOf, HasCause, events_before}
 use Rattle.rx_verdict.proofs.Births.{Has, StartsTask, parent}
 use Rattle.rx_verdict.proofs.Once.{made_at}
-use Rattle.rx_verdict.specs.Lawful.{AsksSome}
+use Rattle.rx_verdict.specs.Lawful.{CellAsksSome}
 use Rattle.rx_verdict.specs.Marks.{WholePass}
 use Rattle.rx_runs.proofs.SomeWords.{Keeps, keeps, some-items, some-answered, some-granted, some-child}
 
 -- what a call that asks for some words is told, asks for some
-told-some : (d : Does) (here : PlaceId) (cell : Cell) (a : Answer) → Keeps d → Tells d here cell a → AsksSome cell
+told-some : (d : Does) (here : PlaceId) (cell : Cell) (a : Answer) → Keeps d → Tells d here cell a → CellAsksSome cell
 told-some (terms.Makes name words) here (Make n s g) a k t = subst (λ z. 0 < z) (sym t.0) k
 told-some (terms.Makes name words) here (MakeFull n) a k t = subst (λ z. 0 < z) (sym t.0) k
 told-some d here (Get r i v) a k t = tt
@@ -104,9 +104,9 @@ module _ (code : Block) (q : ℕ) (es : List Entry) (js : List (List PlaceEvent)
       (cases_lt c (suc n))
 
 -- an event that such a term makes
-event_some : {rule : StampRule} {starts : Starts} {here : PlaceId} {low k : ℕ} {vars : Vars} {t : Term} {batch : List (List ℕ)} {cells : Cells} {moves : Moves} → MakesEvent rule starts here low vars t batch cells moves k → TermMakesSome t → (x : ℕ × Cell × List ℕ) → slice_get cells k ≡ Some x → AsksSome x.1
+event_some : {rule : StampRule} {starts : Starts} {here : PlaceId} {low k : ℕ} {vars : Vars} {t : Term} {batch : List (List ℕ)} {cells : Cells} {moves : Moves} → MakesEvent rule starts here low vars t batch cells moves k → TermMakesSome t → (x : ℕ × Cell × List ℕ) → slice_get cells k ≡ Some x → CellAsksSome x.1
 event_some {here = here} (parts.now {vars = vars} {t = t} {cell = cell} a keep tells b) h x at =
-    let same : cell ≡ x.1 = cc in subst AsksSome same (told-some (does vars here.0 t) here cell a (keeps vars here.0 t h) tells)
+    let same : cell ≡ x.1 = cc in subst CellAsksSome same (told-some (does vars here.0 t) here cell a (keeps vars here.0 t h) tells)
 event_some {here = here} (parts.MakesEvent.local {vars = vars} {t = t} g m) h x at = event_some m (subst Keeps g (keeps vars here.0 t h)) x at
 event_some (parts.MakesEvent.stores {t = t} a tells b m) h x at = event_some m (some-answered a t h) x at
 event_some (parts.MakesEvent.asks {t = t} {act = act} fits so m) h x at = event_some m (some-granted (brought act) t h) x at
@@ -125,12 +125,12 @@ event_of (y ∷ j) zero u stamp cell x h =
 event_of (y ∷ j) (suc e) u stamp cell x h = counted (cell_of u.0 y) (filter_map (cell_of u.0) (take e j)) (filter_map (cell_of u.0) j) (stamp, cell, x) (event_of j e u stamp cell x h)
 
 -- where all entries are allowed and made, an event of a task that has its cause asks for some words
-pub causes_ask_some : (rule : StampRule) (code : Block) (U : Given) (es : List Entry) (js : List (List PlaceEvent)) (p e : ℕ) (task : TaskId) (stamp : ℕ) (cell : Cell) (path : List ℕ) → MakesSome code → WholePass code U es js → slice_get (journal_at js p) e ≡ Some (Done task stamp cell path) → HasCause rule code U es js p e → AsksSome cell
+pub causes_ask_some : (rule : StampRule) (code : Block) (U : Given) (es : List Entry) (js : List (List PlaceEvent)) (p e : ℕ) (task : TaskId) (stamp : ℕ) (cell : Cell) (path : List ℕ) → MakesSome code → WholePass code U es js → slice_get (journal_at js p) e ≡ Some (Done task stamp cell path) → HasCause rule code U es js p e → CellAsksSome cell
 causes_ask_some rule code U es js p e task stamp cell path begin whole at cause =
     let made = subst (CauseOf rule code U es js p e) at cause in
     let place : journal_at js p ≡ journal_at js (birth_of es task.0).to.0 = ap (journal_at js) (sym made.home) in
     let k = events_before task.0 (journal_at js p) e in
     let event : slice_get (cells_of es js task.0) k ≡ Some (stamp, cell, path) = ap (λ (j : List PlaceEvent). slice_get (filter_map (cell_of task.0) j) k) (sym place) ∙ event_of (journal_at js p) e task stamp cell path at in
     let start = all_some code U.places es js whole.some whole.few whole.allowed begin made.starts made.made (suc task.0) task.0 (omega arith) made.start made.begins in
-    landing_of (AsksSome cell) (λ low moves. MakesEvent rule made.starts (birth_of es task.0).to low made.start.1 made.start.0 [] (cells_of es js task.0) moves k)
+    landing_of (CellAsksSome cell) (λ low moves. MakesEvent rule made.starts (birth_of es task.0).to low made.start.1 made.start.0 [] (cells_of es js task.0) moves k)
     (λ low moves m. event_some m start (stamp, cell, path) event) (travels (birth_of es task.0)) (birth_of es task.0).low (moves_from 0 es task.0) made.event

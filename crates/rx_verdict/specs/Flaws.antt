@@ -8,12 +8,12 @@ use Rattle.rx_rules.specs.Store.{IsStoreRun, opening_state}
 use Rattle.rx_rules.specs.Run.{NotFalling, death_number}
 use Rattle.rx_verdict.specs.Verdicts.{Precedes}
 use Rattle.rx_verdict.specs.declared.flaws.EventAt.{EventAt}
-use Rattle.rx_verdict.specs.Lawful.{AsksSome}
+use Rattle.rx_verdict.specs.Lawful.{CellAsksSome}
 use Rattle.rx_verdict.specs.Marked.{row_at}
 
 -- the event is marked, and asks for no block of no words; or it is a close with the number of the death
 abbrev pub CauseBy : Option ℕ → Bool → PlaceEvent → Type 0
-CauseBy death mark (Done task stamp cell path) = (mark ≡ true) × AsksSome cell
+CauseBy death mark (Done task stamp cell path) = (mark ≡ true) × CellAsksSome cell
 CauseBy death mark (Close stamp) = death ≡ Some stamp
 
 -- event number e of a journal is so, with these marks

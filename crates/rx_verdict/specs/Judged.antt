@@ -15,7 +15,7 @@ use Rattle.rx_verdict.specs.declared.verdict.Verdict.{Verdict}
 use Rattle.rx_verdict.specs.declared.verdict.Verdict.TheVariants.{Run, Entry as AtEntry, End, Event, Open}
 use Rattle.rx_verdict.specs.Verdicts.{HasCause, IsGood, GoodBefore, AllGood, AllParts, IsVerdict}
 use Rattle.rx_verdict.specs.declared.flaws.EventAt.{EventAt}
-use Rattle.rx_verdict.specs.Lawful.{AsksSome}
+use Rattle.rx_verdict.specs.Lawful.{CellAsksSome}
 use Rattle.rx_verdict.specs.Marked.{marked}
 use Rattle.rx_verdict.specs.Flaws.{IsFirstFlaw}
 use Rattle.rx_verdict.specs.Closes.{IsFirstUnclosed}
@@ -32,7 +32,7 @@ pub record MarksTell (code : Block) (U : Given) (es : List Entry) (js : List (Li
     : Type 0 where
   pub made : MarksMade code U es js ms
   pub some : (p e : ℕ) (task : TaskId) (stamp : ℕ) (cell : Cell) (path : List ℕ)
-      → slice_get (journal_at js p) e ≡ Some (Done task stamp cell path) → marked ms p e ≡ true → AsksSome cell
+      → slice_get (journal_at js p) e ≡ Some (Done task stamp cell path) → marked ms p e ≡ true → CellAsksSome cell
 
 -- the second follows where all entries are allowed and made, and each `new` of the script asks for a word or more
 abbrev pub MadeMarksTell : Type 0

@@ -8,14 +8,14 @@ use Rattle.rx_rules.specs.Store.{IsStoreRun, opening_state}
 use Rattle.rx_rules.specs.Run.{NotFalling}
 
 -- a block that is asked for has one word or more
-abbrev pub AsksSome : Cell → Type 0
-AsksSome (Make n start generation) = 0 < n
-AsksSome (MakeFull n) = 0 < n
-AsksSome _ = Unit {0}
+abbrev pub CellAsksSome : Cell → Type 0
+CellAsksSome (Make n start generation) = 0 < n
+CellAsksSome (MakeFull n) = 0 < n
+CellAsksSome _ = Unit {0}
 
 -- the same of an event of a journal
 abbrev pub WantsSome : PlaceEvent → Type 0
-WantsSome (Done task stamp cell path) = AsksSome cell
+WantsSome (Done task stamp cell path) = CellAsksSome cell
 WantsSome (Close stamp) = Unit {0}
 
 -- the same of each event

@@ -1,8 +1,8 @@
 // What an event of a store was asked, asked of blocks again.
 ghost use Rattle.std.specs.Prelude.{◌≡◌, ◌-◌, ◌<◌, ◌^◌, cond, not};
 ghost use Rattle.rx_store.specs.Asks.{ask_of};
-ghost use Rattle.rx_store.specs.Table.{Tells};
-ghost use Rattle.rx_verdict.specs.Lawful.{AsksSome};
+ghost use Rattle.rx_store.specs.Table.{EventFits};
+ghost use Rattle.rx_verdict.specs.Lawful.{CellAsksSome};
 ghost use Rattle.rx_verdict.specs.Inside.Same.{same_answer};
 
 use rx_rules::Cell;
@@ -10,10 +10,10 @@ use rx_store::Blocks;
 
 // Makes the call that the event tells of, and gives the event that tells of this call.
 pub(crate) fn ask(blocks: &mut Blocks, cell: Cell) -> Cell
-    requires some { AsksSome cell }
+    requires some { CellAsksSome cell }
     requires few { blocks.old.made < 2 ^ 32 - 1 }
     ensures asked { ask_of result ≡ ask_of cell }
-    ensures told { Tells blocks.old blocks.new result }
+    ensures told { EventFits blocks.old blocks.new result }
 {
     match cell {
         Cell::Make { words, .. } => blocks.make(words),

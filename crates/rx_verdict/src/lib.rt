@@ -8,7 +8,7 @@
 //! It has the events' side of a verdict too: how many of the first events of a journal are those of a store, which event of all
 //! journals is the first that has no cause, and which place died and was not closed. The layer above marks each event that a task makes;
 //! it uses that the first event without its cause is then the first that is not good. It stands on rx_store, whose blocks replay the
-//! journals, on rx_kills for the deaths, and on the laws of rx_sound and rx_runs. docs/semantics.md states the rules under "Verdicts".
+//! journals, on rx_kills for the deaths, and on the laws of rx_tree_laws and rx_runs. docs/semantics.md states the rules under "Verdicts".
 #![tactic(auto)]
 
 ghost use Rattle.rx_verdict.specs.Verdicts.{OneVerdict, RunIsVerdict, VerdictIsRun};

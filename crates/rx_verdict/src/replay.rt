@@ -1,7 +1,7 @@
 // A journal, replayed on blocks.
 ghost use Rattle.std.specs.Prelude.{◌≡◌, ◌↔◌, ◌-◌, ◌<◌, ◌≤◌, ◌^◌, IsTrue, IfOk};
 ghost use Rattle.rx_rules.specs.Run.{stamp_of};
-ghost use Rattle.rx_verdict.specs.Lawful.{AsksSome, IsLawfulCount};
+ghost use Rattle.rx_verdict.specs.Lawful.{CellAsksSome, IsLawfulCount};
 ghost use Rattle.rx_verdict.specs.Inside.Next.{Follows, is_close};
 
 use crate::asking::{ask, is_answer};
@@ -58,7 +58,7 @@ fn follows(blocks: &mut Blocks, last: u32, event: &PlaceEvent) -> bool
 
 // Whether a make asks for one word or more.
 fn asks_some(cell: Cell) -> bool
-    ensures { IsTrue result ↔ AsksSome cell }
+    ensures { IsTrue result ↔ CellAsksSome cell }
 {
     match cell {
         Cell::Make { words, .. } => words > 0,

@@ -15,9 +15,9 @@ use Rattle.rx_rules.specs.declared.events.PlaceEvent.{PlaceEvent}
 use Rattle.rx_rules.specs.Plays.{Fits}
 use Rattle.rx_rules.proofs.Append.{joins_in, tree-places, tree-push}
 use Rattle.rx_rules.proofs.Numbers.{next-tree}
-use Rattle.rx_sound.specs.Histories.{FoldReached}
-use Rattle.rx_sound.specs.Sound.{ReachedSound, Sound}
-use Rattle.rx_sound.proofs.Reached.{sound}
+use Rattle.rx_tree_laws.specs.Histories.{FoldReached}
+use Rattle.rx_tree_laws.specs.Sound.{ReachedSound, Sound}
+use Rattle.rx_tree_laws.proofs.Reached.{sound}
 use Rattle.rx_runs.specs.Games.{fresh}
 use Rattle.rx_runs.proofs.Told.{IsNext}
 use Rattle.rx_finish.specs.declared.ledger.Caller.{Caller}
@@ -26,8 +26,8 @@ use Rattle.rx_ledger.specs.Owned.{own_told}
 use Rattle.rx_chronicle.specs.Told.{parents_by}
 use Rattle.rx_ledger.proofs.CallersGoOn as on
 use Rattle.rx_ledger.proofs.OwnTold.{unborn_owns}
-use Rattle.rx_sound.proofs.Granting.{unheld-child}
-use Rattle.rx_sound.proofs.SpineGrants.{flat-child}
+use Rattle.rx_tree_laws.proofs.Granting.{unheld-child}
+use Rattle.rx_tree_laws.proofs.SpineGrants.{flat-child}
 use Rattle.rx_syntax.specs.Shape.{Shape}
 use Rattle.rx_history.specs.declared.step.Want.{Want}
 use Rattle.rx_history.specs.declared.step.Next.TheVariants.{Book}
@@ -52,7 +52,7 @@ use Rattle.rx_verify.specs.Players.{AwaitsWhere, IsSeat, Rests, SlotIs, PlayersA
 use Rattle.rx_verify.specs.Stood.{Stood}
 use Rattle.rx_verify.specs.Table.{TableIs}
 use Rattle.rx_verify.specs.Inside.Admitted.{Stopped}
-use Rattle.rx_verify.specs.Inside.Requests.{CountsMore, GoneOn, IsAsked, IsChild, IsNewborn, slot_for}
+use Rattle.rx_verify.specs.Inside.Requests.{CountsMore, GoneOn, ActIsAsked, IsChild, IsNewborn, slot_for}
 use Rattle.rx_verify.proofs.AdmitEntries.{newborn_birth, newborn_moves, starts_at}
 use Rattle.rx_verify.proofs.AdmitPlayers.{callers_changed, changed_size, count_is, home_stays, low_now, many, more_places, next_is, one_changed, parents_changed, task_born}
 use Rattle.rx_verify.proofs.Callers.{born_away, born_here, caller_goes, folds_so, numbers, same_task}
@@ -141,7 +141,7 @@ module _ (shape : Shape) (code : Block) (U : Given) (es : List Entry) (js : List
       subst (λ (p : PlaceId). Fits p z.term (next_does p z) act) (sym seated.home) r.1
 
   -- of the seat as it was taken out of its slot
-  pub at_hand : (got : Seat) → got ≡ seat → wanted want got.home act ≡ true → Stood shape js got z left × IsAsked got.home (next_does got.home z) act
+  pub at_hand : (got : Seat) → got ≡ seat → wanted want got.home act ≡ true → Stood shape js got z left × ActIsAsked got.home (next_does got.home z) act
   at_hand got e w = (
     subst (λ (v : Seat). Stood shape js v z left) (sym e) seated.stood,
     (want, subst (λ (v : Seat). next_of (next_does v.home z) ≡ Book want) (sym e) h.stops.stops, w),

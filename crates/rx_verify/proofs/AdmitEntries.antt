@@ -10,8 +10,8 @@ use Rattle.rx_rules.specs.declared.entries.Entry.TheVariants.{Step, Root, Death,
 use Rattle.rx_rules.specs.declared.events.PlaceEvent.{PlaceEvent}
 use Rattle.rx_rules.proofs.Append.{act-places, tree-push}
 use Rattle.rx_rules.proofs.Numbers.{next-tree}
-use Rattle.rx_sound.specs.Histories.{FoldReached}
-use Rattle.rx_sound.proofs.Births.{birth-other, births-left}
+use Rattle.rx_tree_laws.specs.Histories.{FoldReached}
+use Rattle.rx_tree_laws.proofs.Births.{birth-other, births-left}
 use Rattle.rx_runs.specs.Ties.{birth_among}
 use Rattle.rx_runs.proofs.Pushes.{birth-push}
 use Rattle.rx_runs.proofs.Told.{StartsAt, Told, told, birth-new}

@@ -14,7 +14,7 @@ use Rattle.rx_rules.specs.declared.entries.Entry.{Entry}
 use Rattle.rx_rules.specs.declared.entries.Entry.TheVariants.{Step}
 use Rattle.rx_rules.specs.declared.events.PlaceEvent.{PlaceEvent}
 use Rattle.rx_runs.specs.AnyAnswers.{AsksStore}
-use Rattle.rx_sound.specs.Histories.{FoldReached}
+use Rattle.rx_tree_laws.specs.Histories.{FoldReached}
 use Rattle.rx_ledger.specs.TermAsks.{MayAskAct}
 use Rattle.rx_syntax.specs.Shape.{Shape}
 use Rattle.rx_verdict.specs.Marks.{EntriesToCome, home_of}
@@ -31,7 +31,7 @@ use Rattle.rx_verify.specs.declared.players.Players.{Players}
 use Rattle.rx_verify.specs.Along.{GoesAlong}
 use Rattle.rx_verify.specs.Marked.{IsNextOf}
 use Rattle.rx_verify.specs.Players.{Awaits, IsSeat, SlotIs, PlayersStand, StopsAt, none_rests}
-use Rattle.rx_verify.specs.Reaching.{Makes, Ready}
+use Rattle.rx_verify.specs.Reaching.{TaskMakesAct, Ready}
 use Rattle.rx_verify.specs.Inside.Admitted.{Stopped, WalksAlong}
 use Rattle.rx_verify.proofs.AdmitPlayers.{lands_only, task_inside, travels_so}
 use Rattle.rx_verify.proofs.MarksEnd.{asks_ledger, asks_store, is_done}
@@ -170,6 +170,6 @@ module _ (shape : Shape) (code : Block) (U : Given) (es : List Entry) (js : List
             };
             here = a.here;
           };
-          makes = subst (λ (v : Act). Makes shape U es js i old a.players.seats task batch v) (sym is) (seat, at, none);
+          makes = subst (λ (v : Act). TaskMakesAct shape U es js i old a.players.seats task batch v) (sym is) (seat, at, none);
         },
       )

@@ -12,7 +12,7 @@ use Rattle.rx_rules.specs.declared.entries.Entry.{Entry}
 use Rattle.rx_rules.specs.declared.entries.Entry.TheVariants.{Step, Root, Death, Join}
 use Rattle.rx_rules.specs.declared.tasks.Where.TheVariants.{At}
 use Rattle.rx_rules.specs.declared.events.PlaceEvent.{PlaceEvent}
-use Rattle.rx_sound.specs.Histories.{FoldReached}
+use Rattle.rx_tree_laws.specs.Histories.{FoldReached}
 use Rattle.rx_runs.specs.Games.{fresh}
 use Rattle.rx_chronicle.specs.Told.{parents_by, parents_in, parents_told}
 use Rattle.rx_syntax.specs.Shape.{Shape}

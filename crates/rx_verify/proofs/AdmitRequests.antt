@@ -24,9 +24,9 @@ use Rattle.rx_verify.specs.declared.seat.Seat.{Seat}
 use Rattle.rx_verify.specs.Events.{IsFirst}
 use Rattle.rx_verify.specs.Reaching.{wanted}
 use Rattle.rx_verify.specs.Stood.{Stood}
-use Rattle.rx_verify.specs.Inside.Requests.{FitsRest, IsAsked, IsGranted, AfterPath, AfterWait, AfterAct, AfterRequest}
+use Rattle.rx_verify.specs.Inside.Requests.{FitsRest, ActIsAsked, IsGranted, AfterPath, AfterWait, AfterAct, AfterRequest}
 use Rattle.rx_verify.proofs.Callers.{same_task}
-use Rattle.rx_sound.specs.TermSteps.{Begins}
+use Rattle.rx_tree_laws.specs.TermSteps.{BeginsStatement}
 
 -- An act fits exactly where it is of the kind that is wanted and its rest is right.
 
@@ -113,7 +113,7 @@ asks_wait (Waits faults) h = (faults, refl)
 asks_wait d h = absurd (let f : ⊥ = cc in f)
 
 -- an act that is neither a wait nor a release is asked by the statement that begins
-pub begins_it : (here : PlaceId) (d : Does) (act : Act) (b : Option (List ℕ)) → wanted want.Wait here act ≡ false → wanted want.Release here act ≡ false → IsAsked here d act → Begins d b → (x : List ℕ) × (b ≡ Some x)
+pub begins_it : (here : PlaceId) (d : Does) (act : Act) (b : Option (List ℕ)) → wanted want.Wait here act ≡ false → wanted want.Release here act ≡ false → ActIsAsked here d act → BeginsStatement d b → (x : List ℕ) × (b ≡ Some x)
 begins_it here (Makes name words) act b e f a h = h
 begins_it here (Gets name target index) act b e f a h = h
 begins_it here (Puts target index value) act b e f a h = h
@@ -157,7 +157,7 @@ after_wait shape old new here t s faults thrown true is h =
 after_wait shape old new here t s faults thrown false is h = λ f. h (let e : Some faults ≡ Some thrown = sym (ap carried is) ∙ f in cc)
 
 -- the seat with its control
-pub request_made : (shape : Shape) (js : List (List PlaceEvent)) (parents : List ScopeId) (old new : Seat) (number : ℕ) (z : Player) (left : Cells) (act : Act) → Stood shape js old z left → IsAsked old.home (next_does old.home z) act → AfterAct shape old.control new.control old.home z.term act true → new.who ≡ who_after parents act old.who → new.home ≡ old.home → new.position ≡ old.position → new.low ≡ suc number → AfterRequest shape js parents old new number z left act true
+pub request_made : (shape : Shape) (js : List (List PlaceEvent)) (parents : List ScopeId) (old new : Seat) (number : ℕ) (z : Player) (left : Cells) (act : Act) → Stood shape js old z left → ActIsAsked old.home (next_does old.home z) act → AfterAct shape old.control new.control old.home z.term act true → new.who ≡ who_after parents act old.who → new.home ≡ old.home → new.position ≡ old.position → new.low ≡ suc number → AfterRequest shape js parents old new number z left act true
 request_made shape js parents old new number z left act s a h who home position low =
     let d : does old.control.vars old.home.0 z.term ≡ next_does old.home z = ap (λ (v : Vars). does v old.home.0 z.term) s.vars in
     let few = s.few in
@@ -181,7 +181,7 @@ request_made shape js parents old new number z left act s a h who home position 
       },
     )
 
-pub request_missed : (shape : Shape) (js : List (List PlaceEvent)) (old : Seat) (new : Control) (z : Player) (left : Cells) (act : Act) → Stood shape js old z left → IsAsked old.home (next_does old.home z) act → AfterAct shape old.control new old.home z.term act false → Fits old.home z.term (next_does old.home z) act → ⊥
+pub request_missed : (shape : Shape) (js : List (List PlaceEvent)) (old : Seat) (new : Control) (z : Player) (left : Cells) (act : Act) → Stood shape js old z left → ActIsAsked old.home (next_does old.home z) act → AfterAct shape old.control new old.home z.term act false → Fits old.home z.term (next_does old.home z) act → ⊥
 request_missed shape js old new z left act s a h f =
     let d : does old.control.vars old.home.0 z.term ≡ next_does old.home z = ap (λ (v : Vars). does v old.home.0 z.term) s.vars in
     h (subst (λ (v : Does). FitsRest z.term v act) (sym d) ((fits_cut old.home z.term (next_does old.home z) act a.0 a.1).0 f).1)
@@ -193,12 +193,12 @@ after_release shape old new here t act s lost masked thrown is h =
     (tt, h.0, h.1 ∙ sym (untold (does old.vars here.0 t) (Release s lost masked thrown) old.vars (λ n x e. let f : ⊥ = cc in f)))
 
 -- where the act is a wait, the term waits
-pub told_wait : (here : PlaceId) (d : Does) (act : Act) (s : ScopeId) (thrown : List Fault) → act ≡ Wait s thrown → IsAsked here d act → (faults : List Fault) × (d ≡ Waits faults)
+pub told_wait : (here : PlaceId) (d : Does) (act : Act) (s : ScopeId) (thrown : List Fault) → act ≡ Wait s thrown → ActIsAsked here d act → (faults : List Fault) × (d ≡ Waits faults)
 told_wait here d act s thrown is a =
     let w : a.0 ≡ want.Wait = wants_wait a.0 here s thrown (ap (λ (v : Act). wanted a.0 here v) (sym is) ∙ a.2) in
     asks_wait d (a.1 ∙ ap (λ (v : Want). Book v) w)
 
 -- where it is a census, the term counts
-pub told_census : (here : PlaceId) (d : Does) (act : Act) (n : ℕ) (x : List ℕ) → act ≡ Census n x → IsAsked here d act → next_of d ≡ Book want.Census
+pub told_census : (here : PlaceId) (d : Does) (act : Act) (n : ℕ) (x : List ℕ) → act ≡ Census n x → ActIsAsked here d act → next_of d ≡ Book want.Census
 told_census here d act n x is a =
     a.1 ∙ ap (λ (v : Want). Book v) (wants_census a.0 here n x (ap (λ (v : Act). wanted a.0 here v) (sym is) ∙ a.2))

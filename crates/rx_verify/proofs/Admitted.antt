@@ -5,7 +5,7 @@ use Rattle.rx_rules.specs.declared.entries.Act.{Act}
 use Rattle.rx_rules.specs.declared.entries.Entry.{Entry}
 use Rattle.rx_rules.specs.declared.entries.Entry.TheVariants.{Step, Root, Death, Join}
 use Rattle.rx_rules.proofs.Append.{tree-push, root-push, act-places, no_root-push, no_root-death}
-use Rattle.rx_sound.specs.Histories.{DeadAsTold}
+use Rattle.rx_tree_laws.specs.Histories.{DeadAsTold}
 use Rattle.rx_runs.specs.Segments.{plan_left, InTime}
 use Rattle.rx_runs.specs.Ties.{MayBe, MayCome}
 use Rattle.rx_runs.proofs.Append.{allowed-push}

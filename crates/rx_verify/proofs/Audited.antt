@@ -5,7 +5,7 @@ use Rattle.rx_rules.proofs.Common.{MembersMakeTheSet, PlaceId, Fault, PlaceSet, 
 use Rattle.rx_rules.specs.declared.entries.Act.{Act}
 use Rattle.rx_rules.specs.declared.entries.Entry.{Entry}
 use Rattle.rx_rules.specs.declared.entries.Entry.TheVariants.{Step, Root, Death, Join}
-use Rattle.rx_sound.specs.Histories.{DeadAsTold}
+use Rattle.rx_tree_laws.specs.Histories.{DeadAsTold}
 use Rattle.rx_runs.specs.Ties.{MayCome}
 use Rattle.rx_runs.proofs.Plans.{plan_comes}
 use Rattle.rx_finish.specs.declared.ledger.Caller.{Caller}

@@ -25,12 +25,12 @@ use Rattle.rx_ledger.proofs.OwnTold.{numbers_are_left}
 use Rattle.rx_chronicle.proofs.Pushing.{parents-push}
 use Rattle.rx_ledger.proofs.Rows.{main_asks}
 use Rattle.rx_ledger.proofs.TermAsks.{kinds_of, law_of_asking}
-use Rattle.rx_sound.specs.Held.{is_held, HeldInFront, Unheld}
-use Rattle.rx_sound.specs.Spine.{NoScopeOpen, Spine}
-use Rattle.rx_sound.proofs.Granting.{after-grant, answer_waits, not_held}
-use Rattle.rx_sound.proofs.Holding.{AfterLocal, after-local, unheld-front, unheld-items}
-use Rattle.rx_sound.proofs.SpineGrants.{answer_spine, begun_is, spine-grant}
-use Rattle.rx_sound.proofs.Spines.{LeavesSpine, flat-items, flat-spine, spine-local}
+use Rattle.rx_tree_laws.specs.Held.{is_held, HeldInFront, Unheld}
+use Rattle.rx_tree_laws.specs.Spine.{NoScopeOpen, Spine}
+use Rattle.rx_tree_laws.proofs.Granting.{after-grant, answer_waits, not_held}
+use Rattle.rx_tree_laws.proofs.Holding.{AfterLocal, after-local, unheld-front, unheld-items}
+use Rattle.rx_tree_laws.proofs.SpineGrants.{answer_spine, begun_is, spine-grant}
+use Rattle.rx_tree_laws.proofs.Spines.{LeavesSpine, flat-items, flat-spine, spine-local}
 use Rattle.rx_verdict.specs.Parts.{IsQuiet}
 use Rattle.rx_verdict.specs.Seats as pass
 use Rattle.rx_verdict.specs.Seats.{Seated}

@@ -24,7 +24,7 @@ use Rattle.rx_verify.specs.declared.players.Players.{Players}
 use Rattle.rx_verify.specs.Players.{Awaits, PlayersStay}
 use Rattle.rx_verify.specs.Reaching.{Granted, IsMade, Reached}
 use Rattle.rx_verify.specs.Inside.Deciding.{Decides}
-use Rattle.rx_verify.specs.Inside.Granting.{Admitting, AdmittingOf, Asks, Goes}
+use Rattle.rx_verify.specs.Inside.Granting.{Admitting, AdmittingOf, CallerMayAsk, CanContinue}
 use Rattle.rx_verify.specs.Inside.Passing.{PassIs, IsFlaw, AfterEntry}
 use Rattle.rx_verify.proofs.Bounded.{few_entries}
 
@@ -52,7 +52,7 @@ module _ {L : Type 0} (stands : L → ℕ → Tree → Type 0) (shape : Shape) (
       omega (arith, few, same)
 
   -- an audit in which the root stands
-  pub goes : MadeBounded → (a : Audit L) (ps : Players) → PassIs stands shape U es js i a ps → (code : Block) → Stands shape code → work code ≤ 100000 → a.ended ≡ false → Goes stands a
+  pub goes : MadeBounded → (a : Audit L) (ps : Players) → PassIs stands shape U es js i a ps → (code : Block) → Stands shape code → work code ≤ 100000 → a.ended ≡ false → CanContinue stands a
   goes law a ps pass code st small on =
       record { setup = U; entries = take i es; is = pass.audit; few = count_is_few law a ps pass code st small; unended = on }
 
@@ -114,7 +114,7 @@ module _ {L : Type 0} (stands : L → ℕ → Tree → Type 0) (shape : Shape) (
       may_ask : (code : Block) → Stands shape code → MayAskAct (tree_of U.places (take i es)) who act
       may_ask code st = (reached code U es (awaits code st)).1
 
-      pub asks : MadeBounded → (code : Block) → Stands shape code → work code ≤ 100000 → a.ended ≡ false → Asks stands a who act
+      pub asks : MadeBounded → (code : Block) → Stands shape code → work code ≤ 100000 → a.ended ≡ false → CallerMayAsk stands a who act
       unfolding goes
       asks law code st small on = record { goes = goes law a ps pass code st small on; may = may_ask code st }
 

@@ -28,7 +28,7 @@ use Rattle.rx_verify.specs.declared.players.Slot.TheVariants.{Here}
 use Rattle.rx_verify.specs.declared.players.Players.{Players}
 use Rattle.rx_verify.specs.Callers.{CallerIs}
 use Rattle.rx_verify.specs.Players.{Awaits, IsSeat}
-use Rattle.rx_verify.specs.Reaching.{wanted, right, Makes, Ready, Reached}
+use Rattle.rx_verify.specs.Reaching.{wanted, right, TaskMakesAct, Ready, Reached}
 use Rattle.rx_verify.specs.Inside.Admitted.{GoesAfter, NoneMakes, OneMakes, Stopped}
 use Rattle.rx_verify.proofs.AdmitAsked.{asks_only}
 use Rattle.rx_verify.proofs.AdmitPlayers.{ends_only}
@@ -171,7 +171,7 @@ module _ (shape : Shape) (code : Block) (U : Given) (es : List Entry) (js : List
       of_end T who h.stops.seat.value.home act e (subst (λ (z : Does). MayAskNext T who z) d.1 m)
   may_act T who Halts h e m = absurd (true≢false (sym e))
 
-  makes_so : (stop : Stop) (h : Stopped shape code U es js i ps task act batch stop) (v : Act) → right stop h.stops.seat.value.home v ≡ true → Makes shape U es js i ps h.awaits.players.seats task batch v
+  makes_so : (stop : Stop) (h : Stopped shape code U es js i ps task act batch stop) (v : Act) → right stop h.stops.seat.value.home v ≡ true → TaskMakesAct shape U es js i ps h.awaits.players.seats task batch v
   makes_so stop h (Arrive p) e = absurd (unarrived stop h.stops.seat.value.home p e)
   makes_so stop h v e = (stop, h.stops, h.whole, e)
 
@@ -182,7 +182,7 @@ module _ (shape : Shape) (code : Block) (U : Given) (es : List Entry) (js : List
 
   -- Back again.
 
-  stops_so : (v : Act) (a : Ready shape code U es js i ps task act batch) → GoesAfter v → Makes shape U es js i ps a.awaits.players.seats task batch v → (stop : Stop) × (h : Stopped shape code U es js i ps task act batch stop) × (right stop h.stops.seat.value.home v ≡ true)
+  stops_so : (v : Act) (a : Ready shape code U es js i ps task act batch) → GoesAfter v → TaskMakesAct shape U es js i ps a.awaits.players.seats task batch v → (stop : Stop) × (h : Stopped shape code U es js i ps task act batch stop) × (right stop h.stops.seat.value.home v ≡ true)
   stops_so (Arrive p) a g m = absurd g
   stops_so (End thrown) a g m = absurd g
   stops_so v a g m = (m.0, record { awaits = a.awaits; stops = m.1; whole = m.2 }, m.3)

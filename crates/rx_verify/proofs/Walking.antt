@@ -16,7 +16,7 @@ use Rattle.rx_history.specs.declared.step.CellOp.{CellOp}
 use Rattle.rx_history.specs.declared.step.Next.{Next}
 use Rattle.rx_history.specs.declared.step.Next.TheVariants.{Local as LocalStep, Cell as Calls}
 use Rattle.rx_history.specs.Next.{next_of}
-use Rattle.rx_control.specs.Stands.{StandsFor, Leaves}
+use Rattle.rx_control.specs.Stands.{StandsFor, AfterLocalStep}
 use Rattle.rx_plan.proofs.Told.{told_local}
 use Rattle.rx_store.specs.Asked.{Receives, CallIsTold}
 use Rattle.rx_verdict.proofs.Walking.{walks_on}
@@ -28,10 +28,10 @@ use Rattle.rx_verify.specs.Events.{IsFirst, IsOf}
 use Rattle.rx_verify.specs.Along.{GoesAlong}
 use Rattle.rx_verify.specs.Stood.{Stood, Walked}
 use Rattle.rx_verify.specs.Inside.Steps.{GoesFurther}
-use Rattle.rx_sound.proofs.Beginning.{begins-so}
-use Rattle.rx_sound.specs.TermSteps.{Begins}
-use Rattle.rx_sound.proofs.Receiving.{call-so}
-use Rattle.rx_sound.specs.TermSteps.{CallSo}
+use Rattle.rx_tree_laws.proofs.Beginning.{begins-so}
+use Rattle.rx_tree_laws.specs.TermSteps.{BeginsStatement}
+use Rattle.rx_tree_laws.proofs.Receiving.{call-so}
+use Rattle.rx_tree_laws.specs.TermSteps.{CallSo}
 use Rattle.rx_verify.proofs.Following.{none_past, here_event}
 use Rattle.rx_verify.proofs.GoingAlong.{begun_some}
 use Rattle.rx_verify.proofs.Rows.{told_of}
@@ -45,13 +45,13 @@ no_walk shape js seat z left s = record { who = refl; home = refl; low = refl; s
 pub told_next : (shape : Shape) (js : List (List PlaceEvent)) (seat : Seat) (z : Player) (left : Cells) (n : Next) → Stood shape js seat z left → n ≡ next_of (does seat.control.vars seat.home.0 z.term) → next_of (next_does seat.home z) ≡ n
 told_next shape js seat z left n s e = ap (λ (v : Vars). next_of (does v seat.home.0 z.term)) (sym s.vars) ∙ sym e
 
-pub walked_local : (shape : Shape) (js : List (List PlaceEvent)) (old new : Seat) (was along : Along) (z : Player) (left : Cells) → TermSinks → LocalKnowing → Stood shape js old z left → next_of (next_does old.home z) ≡ LocalStep → Leaves shape new.control (does old.control.vars old.home.0 z.term) → new ≡ record old { control = new.control } → ((batch so_far : List (List ℕ)) → GoesAlong batch was so_far → GoesAlong batch along (begun z.term so_far)) → GoesFurther shape js old new was along z left
+pub walked_local : (shape : Shape) (js : List (List PlaceEvent)) (old new : Seat) (was along : Along) (z : Player) (left : Cells) → TermSinks → LocalKnowing → Stood shape js old z left → next_of (next_does old.home z) ≡ LocalStep → AfterLocalStep shape new.control (does old.control.vars old.home.0 z.term) → new ≡ record old { control = new.control } → ((batch so_far : List (List ℕ)) → GoesAlong batch was so_far → GoesAlong batch along (begun z.term so_far)) → GoesFurther shape js old new was along z left
 walked_local shape js old new was along z left sinks knows s e leaves same goes =
     let l = told_local (next_does old.home z) e in
     let after : Term = l.0 in
     let vars : Vars = l.1 in
     let is : next_does old.home z ≡ Local after vars = l.2 in
-    let on : Leaves shape new.control (Local after vars) = subst (λ (d : Does). Leaves shape new.control d) is (subst (λ (v : Vars). Leaves shape new.control (does v old.home.0 z.term)) s.vars leaves) in
+    let on : AfterLocalStep shape new.control (Local after vars) = subst (λ (d : Does). AfterLocalStep shape new.control d) is (subst (λ (v : Vars). AfterLocalStep shape new.control (does v old.home.0 z.term)) s.vars leaves) in
     let falls : steps after + 1 ≤ steps z.term = subst (λ (d : Does). Sinks z.term d) is (sinks z.vars old.home.0 z.term) in
     let few = s.few in
     let y : Player = record { term = after; vars = vars; batch = begun z.term z.batch } in (
@@ -81,7 +81,7 @@ pub record StoreCall (t : Term) (d : Does) : Type 0 where
   pub receives : Receives d (receives t)
   pub sinks : (a : Answer) → steps (answered a t) + 1 ≤ steps t
 
-store_call : (t : Term) (here : ℕ) (op : CellOp) (d : Does) → next_of d ≡ Calls op → Begins d (begins t) → CallSo here d (receives t) → Sinks t d → StoreCall t d
+store_call : (t : Term) (here : ℕ) (op : CellOp) (d : Does) → next_of d ≡ Calls op → BeginsStatement d (begins t) → CallSo here d (receives t) → Sinks t d → StoreCall t d
 store_call t here op (Creates name words) e b c k = record { begins = b; receives = c; sinks = k }
 store_call t here op (Reading name target index) e b c k = record { begins = b; receives = c.1; sinks = k }
 store_call t here op (Writing target index value) e b c k = record { begins = b; receives = tt; sinks = k }

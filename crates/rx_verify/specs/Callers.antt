@@ -6,8 +6,8 @@ use Rattle.rx_rules.specs.Run.{Given}
 use Rattle.rx_rules.specs.Terms.{Term}
 use Rattle.rx_finish.specs.Callers.{MayAskArrive}
 use Rattle.rx_ledger.specs.TermAsks.{Serves, kinds_told}
-use Rattle.rx_sound.specs.Held.{is_held, HeldInFront}
-use Rattle.rx_sound.specs.Spine.{Spine}
+use Rattle.rx_tree_laws.specs.Held.{is_held, HeldInFront}
+use Rattle.rx_tree_laws.specs.Spine.{Spine}
 use Rattle.rx_verdict.specs.Seats as pass
 use Rattle.rx_verify.specs.declared.seat.Seat.{Seat}
 use Rattle.rx_verify.specs.declared.players.Slot.{Slot}

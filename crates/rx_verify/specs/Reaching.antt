@@ -47,11 +47,11 @@ right Ends here act = false
 right Halts here act = false
 
 -- the task makes such an act with this batch: it travels and arrives, or it has stopped where it makes it
-abbrev pub Makes : Shape → Given → List Entry → List (List PlaceEvent) → ℕ → Players → List pass.Seat → TaskId → List (List ℕ) → Act
+abbrev pub TaskMakesAct : Shape → Given → List Entry → List (List PlaceEvent) → ℕ → Players → List pass.Seat → TaskId → List (List ℕ) → Act
     → Type 0
-Makes shape U es js i ps seats task batch (Arrive p) =
+TaskMakesAct shape U es js i ps seats task batch (Arrive p) =
     (seat : Box Seat) × (slice_get ps.slots.items task.0 ≡ Some (Away seat)) × (batch ≡ [])
-Makes shape U es js i ps seats task batch act =
+TaskMakesAct shape U es js i ps seats task batch act =
     (stop : Stop) × (stops : StopsAt shape U es js i task.0 ps stop seats) × (batch ≡ stops.player.batch)
     × (right stop stops.seat.value.home act ≡ true)
 
@@ -59,7 +59,7 @@ Makes shape U es js i ps seats task batch act =
 pub record Ready (shape : Shape) (code : Block) (U : Given) (es : List Entry) (js : List (List PlaceEvent)) (i : ℕ) (ps : Players)
     (task : TaskId) (act : Act) (batch : List (List ℕ)) : Type 0 where
   pub awaits : AwaitsWhere (others_rest task.0) shape code U es js i ps (Step task act batch)
-  pub makes : Makes shape U es js i ps awaits.players.seats task batch act
+  pub makes : TaskMakesAct shape U es js i ps awaits.players.seats task batch act
 
 -- entry i is this act of the task, and the players stand before it
 abbrev pub Awaited : Shape → List (List PlaceEvent) → ℕ → Players → TaskId → Act → List (List ℕ) → Type 0

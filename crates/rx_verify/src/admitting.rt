@@ -16,7 +16,7 @@ ghost use Rattle.rx_verify.specs.declared.players.Slot.TheVariants.{Away, Here, 
 ghost use Rattle.rx_verify.specs.Reaching.{Awaited, Reached, Granted, IsMade};
 ghost use Rattle.rx_verify.specs.Stood.{Stood};
 ghost use Rattle.rx_verify.specs.Inside.Admitted.{HasLanded, NoneMakes, OneMakes, GoesAfter};
-ghost use Rattle.rx_verify.specs.Inside.Requests.{IsAsked, IsChild, IsNewborn, slot_for};
+ghost use Rattle.rx_verify.specs.Inside.Requests.{ActIsAsked, IsChild, IsNewborn, slot_for};
 
 use crate::along::Along;
 use crate::players::{Players, Slot};
@@ -189,7 +189,7 @@ impl Players {
         requires goes { GoesAfter act.now }
         ensures { IfOk result (IsMade p.now.script number self.old self.new task act.now) }
     {
-        rx_sound::reached_is_sound();
+        rx_tree_laws::reached_is_sound();
         rx_verdict::seats_ask();
         let Slot::Here(seat) = &mut self.slots[task.0 as usize] else {
             unreachable!()
@@ -216,9 +216,9 @@ fn newborn(
 ) -> Result<Option<Slot>, NoMemory>
     requires less { number + 1 < 2 ^ 32 }
     requires asks { (js : List (List PlaceEvent)) × (z : Player) × (left : Cells) × Stood p.now.script js seat.now z left
-        × IsAsked seat.now.home (next_does seat.now.home z) act.now }
+        × ActIsAsked seat.now.home (next_does seat.now.home z) act.now }
     ensures { IfOk result (λ o. (js : List (List PlaceEvent)) (z : Player) (left : Cells) → Stood p.now.script js seat.now z left
-        → IsAsked seat.now.home (next_does seat.now.home z) act.now → IsNewborn p.now.script table.now number z act.now o) }
+        → ActIsAsked seat.now.home (next_does seat.now.home z) act.now → IsNewborn p.now.script table.now number z act.now o) }
 {
     match act {
         Act::At {

@@ -7,7 +7,7 @@ ghost use Rattle.rx_rules.specs.Run.{Given, Proper, IsDue, NoneDue, EndsWithRoot
 ghost use Rattle.rx_history.specs.Setups.{given};
 ghost use Rattle.rx_kills.specs.Least.{entry_of};
 ghost use Rattle.rx_verify.specs.Inside.Admits.{AuditIs};
-ghost use Rattle.rx_verify.specs.Inside.Granting.{Goes, Asks, Admitting, AdmittingOf};
+ghost use Rattle.rx_verify.specs.Inside.Granting.{CanContinue, CallerMayAsk, Admitting, AdmittingOf};
 
 use crate::granting::{grants, refused, same_outcome, set_fits};
 use rx_base::{Faults, NoMemory, PlaceSet};
@@ -78,10 +78,10 @@ impl<L: FinishLedger> Audit<L> {
 
     /// Makes a death or a join, where it is due. After a no, or where memory ran out, here and below, the audit is of no more use.
     pub(crate) fn pass(&mut self, due: Due) -> bool
-        requires { Goes L.stands self.old }
+        requires { CanContinue L.stands self.old }
         ensures { Admitting L.stands self.old self.new (entry_of due) result }
     {
-        rx_sound::dead_are_as_told();
+        rx_tree_laws::dead_are_as_told();
         if !self.is_due(due) {
             return false;
         }
@@ -101,11 +101,11 @@ impl<L: FinishLedger> Audit<L> {
         masked: u32,
         thrown: &Faults,
     ) -> Result<bool, NoMemory>
-        requires { Goes L.stands self.old }
+        requires { CanContinue L.stands self.old }
         ensures { IfOk result (λ b. Admitting L.stands self.old self.new (Root lost masked thrown.now) b) }
     {
         rx_base::members_make_the_set();
-        rx_sound::root_stands_until_released();
+        rx_tree_laws::root_stands_until_released();
         if !self.none_due() {
             return Ok(false);
         }
@@ -126,7 +126,7 @@ impl<L: FinishLedger> Audit<L> {
 
     /// Makes the act of a caller who may ask for it, where nothing is due and the ledger's answer is that of the entry.
     pub(crate) fn grant(&mut self, who: Caller, act: &Act) -> Result<bool, NoMemory>
-        requires { Asks L.stands self.old who act.now }
+        requires { CallerMayAsk L.stands self.old who act.now }
         ensures { IfOk result (λ b. AdmittingOf L.stands self.old self.new who act.now b) }
     {
         if !self.none_due() {

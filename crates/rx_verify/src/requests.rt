@@ -16,7 +16,7 @@ ghost use Rattle.rx_control.specs.Stands.{StandsFor};
 ghost use Rattle.rx_verdict.specs.Walks.{next_does};
 ghost use Rattle.rx_verify.specs.Stood.{Stood};
 ghost use Rattle.rx_verify.specs.Reaching.{wanted, right};
-ghost use Rattle.rx_verify.specs.Inside.Requests.{IsAsked, CountsMore, IsGranted, AfterPath, AfterWait, AfterAct, AfterRequest};
+ghost use Rattle.rx_verify.specs.Inside.Requests.{ActIsAsked, CountsMore, IsGranted, AfterPath, AfterWait, AfterAct, AfterRequest};
 
 use crate::seat::{Seat, Stop};
 use rx_base::{Faults, NoMemory, Path, PlaceId, ScopeId, same_faults};
@@ -68,10 +68,10 @@ impl Seat {
     ) -> Result<bool, NoMemory>
         requires less { number + 1 < 2 ^ 32 }
         requires asks { (js : List (List PlaceEvent)) × (z : Player) × (left : Cells) × Stood p.now.script js self.old z left
-            × IsAsked self.old.home (next_does self.old.home z) act.now }
+            × ActIsAsked self.old.home (next_does self.old.home z) act.now }
         requires counts { CountsMore self.old.control.vars.places act.now }
         ensures { IfOk result (λ b. (js : List (List PlaceEvent)) (z : Player) (left : Cells) → Stood p.now.script js self.old z left
-            → IsAsked self.old.home (next_does self.old.home z) act.now
+            → ActIsAsked self.old.home (next_does self.old.home z) act.now
             → AfterRequest p.now.script js parents.now self.old self.new number z left act.now b) }
     {
         if !answer(&mut self.control, alloc, p, act)? {
@@ -114,10 +114,10 @@ fn parent_of(parents: &[ScopeId], s: ScopeId) -> ScopeId
 /// Lets a control go on after its request, where the rest of the act is right.
 fn answer(control: &mut Control, alloc: Global, p: &Program, act: &Act) -> Result<bool, NoMemory>
     requires asks { (t : Term) × (here : PlaceId) × StandsFor p.now.script control.old t
-        × IsAsked here (does control.old.vars here.0 t) act.now }
+        × ActIsAsked here (does control.old.vars here.0 t) act.now }
     requires counts { CountsMore control.old.vars.places act.now }
     ensures { IfOk result (λ b. (t : Term) (here : PlaceId) → StandsFor p.now.script control.old t
-        → IsAsked here (does control.old.vars here.0 t) act.now
+        → ActIsAsked here (does control.old.vars here.0 t) act.now
         → AfterAct p.now.script control.old control.new here t act.now b) }
 {
     match act {

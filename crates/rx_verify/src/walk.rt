@@ -6,7 +6,7 @@ ghost use Rattle.rx_rules.specs.Plays.{Cells, begun};
 ghost use Rattle.rx_runs.specs.Steps.{steps};
 ghost use Rattle.rx_history.specs.Events.{events_of};
 ghost use Rattle.rx_history.specs.declared.step.Next.TheVariants.{Cell};
-ghost use Rattle.rx_control.specs.Stands.{StandsFor, Leaves};
+ghost use Rattle.rx_control.specs.Stands.{StandsFor, AfterLocalStep};
 ghost use Rattle.rx_history.specs.Next.{next_of};
 ghost use Rattle.rx_verdict.specs.Walks.{next_does};
 ghost use Rattle.rx_verify.specs.Table.{TableIs};
@@ -88,7 +88,7 @@ impl Seat {
     fn local(&mut self, alloc: Global, p: &Program, along: &mut Along<'_>) -> Result<(), NoMemory>
         requires { (t : Term) × StandsFor p.now.script self.old.control t }
         ensures { OnOk result ((t : Term) → StandsFor p.now.script self.old.control t
-            → Leaves p.now.script self.new.control (does self.old.control.vars self.old.home.0 t)
+            → AfterLocalStep p.now.script self.new.control (does self.old.control.vars self.old.home.0 t)
             × (self.new ≡ record self.old { control = self.new.control })
             × ((batch so_far : List (List ℕ)) → GoesAlong batch along.old so_far → GoesAlong batch along.new (begun t so_far))) }
     {

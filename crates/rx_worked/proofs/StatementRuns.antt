@@ -1,6 +1,6 @@
 -- The worked histories of statements are whole runs, and the wrong ones are in none.
 use Rattle.std.proofs.Common.{◌≡◌, ℕ, pos, true, false, List, [], ◌∷◌, Some, slice_get, refl, lit<, lit≤, subst}
-use Rattle.rx_rules.proofs.Common.{Number, Ref, Fault, Index, Thrown, Num, Name, Nothing, Then, Get, Print, Throw, Term, Vars, no_vars, bound, Empty, items, Gives, Fine, Fails, Plays, asks, ends, Begins, EachPlays, birth_of, travels, Live, fits, word_at, IsRun, p, ordinary_setup, kill_setup, loss_in_transit_journals, BeginsNoRun, acts_of, events_of_task}
+use Rattle.rx_rules.proofs.Common.{Number, Ref, Fault, Index, Thrown, Num, Name, Nothing, Then, Get, Print, Throw, Term, Vars, no_vars, bound, Empty, items, Gives, Fine, Fails, Plays, asks, ends, BeginsWithArrival, EachPlays, birth_of, travels, Live, fits, word_at, IsRun, p, ordinary_setup, kill_setup, loss_in_transit_journals, BeginsNoRun, acts_of, events_of_task}
 use Rattle.rx_rules.specs.declared.entries.Act.{Act}
 use Rattle.rx_rules.specs.declared.entries.Act.TheVariants.{End, Print as Prints}
 use Rattle.rx_rules.specs.declared.entries.Entry.{Entry}
@@ -139,10 +139,10 @@ swallowed_excluded code heap kills joins rest js h =
     let e : ◌≡◌ {A = List Fault} [] (Thrown (pos 1) ∷ []) = h.folds.allowed.1.1.1.1.0.asks.3.faults in cc
 
 -- task 0 plays the whole script
-pub main_plays : (starts more : List (Term × Vars)) (s : Term × Vars) (es : List Entry) (js : List (List PlaceEvent)) → slice_get more 0 ≡ Some s → EachPlays starts es js 0 more → Begins starts (birth_of es 0).to (travels (birth_of es 0)) (birth_of es 0).low s.1 s.0 (events_of_task es js 0) (acts_of es 0)
+pub main_plays : (starts more : List (Term × Vars)) (s : Term × Vars) (es : List Entry) (js : List (List PlaceEvent)) → slice_get more 0 ≡ Some s → EachPlays starts es js 0 more → BeginsWithArrival starts (birth_of es 0).to (travels (birth_of es 0)) (birth_of es 0).low s.1 s.0 (events_of_task es js 0) (acts_of es 0)
 main_plays starts [] s es js h each = absurd (let f : ⊥ = cc in f)
 main_plays starts (x ∷ more) s es js h each =
-    let e : x ≡ s = cc in subst (λ (y : Term × Vars). Begins starts (birth_of es 0).to (travels (birth_of es 0)) (birth_of es 0).low y.1 y.0 (events_of_task es js 0) (acts_of es 0)) e each.0
+    let e : x ≡ s = cc in subst (λ (y : Term × Vars). BeginsWithArrival starts (birth_of es 0).to (travels (birth_of es 0)) (birth_of es 0).low y.1 y.0 (events_of_task es js 0) (acts_of es 0)) e each.0
 
 -- a print of 7 makes no print of 8
 prints_no_other : {starts : List (Term × Vars)} {cells : List (ℕ × Cell × List ℕ)} {more : List (ℕ × Act × List (List ℕ))} → Plays starts (p 0) 0 (no_vars 2) (items value_script [] Empty) [] cells ((0, Prints (pos 8) (0 ∷ []), []) ∷ more) → ⊥

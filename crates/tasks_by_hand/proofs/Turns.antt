@@ -8,7 +8,7 @@ use Rattle.rx_rules.specs.declared.tasks.Kind.TheVariants.{Finish}
 use Rattle.rx_rules.specs.declared.entries.Entry.{Entry}
 use Rattle.rx_rules.specs.declared.tasks.Task.{Task}
 use Rattle.rx_rules.proofs.Append.{tree-places}
-use Rattle.rx_sound.specs.Sound.{Each}
+use Rattle.rx_tree_laws.specs.Sound.{Each}
 use Rattle.rx_finish.specs.declared.ledger.Caller.{Caller}
 use Rattle.rx_history.specs.declared.setup.Setup.{Setup}
 use Rattle.rx_finish.specs.Callers.{MayAsk, HasNumbers, MayAskMoving, MayAskRelease}
@@ -26,16 +26,16 @@ use Rattle.rx_ledger.specs.Asking.{MayApply, MayAskFor}
 use Rattle.rx_ledger.specs.Calling.{tree_seen, Differ, CallsGoOn, CallsKeepOthers, CallsOwn, CallsSpareScopes, StartedAreNew, IsNew, owned_by}
 use Rattle.rx_ledger.specs.Holding.{asking_in, started_in}
 use Rattle.rx_ledger.specs.GoingOn.{MayGoOn, MayBegin, MayStart}
-use Rattle.rx_ledger.specs.Kept.{Kept, is_refusal, Refused, Answered, Applied, AppliedIf, IsHistory}
+use Rattle.rx_ledger.specs.Kept.{KeeperView, is_refusal, Refused, Answered, Applied, AppliedIf, IsHistory}
 use Rattle.rx_ledger.specs.Owned.{Owned, own_told, MayWaitNext, MayEndNext}
 use Rattle.rx_ledger.proofs.Called.{front_folds}
 use Rattle.rx_ledger.proofs.Rows.{main_begins}
 use Rattle.tasks_by_hand.specs.declared.Job.{Job}
-use Rattle.tasks_by_hand.specs.Jobs.{Serves, Owns, OwnsSo, IsGoodJob, Apart, AllGoodJobs, IsReady, SuitsRunning, Suits, inside_after, jobs_of, jobs_after}
+use Rattle.tasks_by_hand.specs.Jobs.{JobTicketServes, Owns, OwnsSo, IsGoodJob, Apart, AllGoodJobs, IsReady, SuitsRunning, Suits, inside_after, jobs_of, jobs_after}
 
 -- What a job asks for may be asked.
 
-asks_running : MayWaitNext → MayEndNext → (k : Kept) (who : Caller) (inside : Bool) (ask : Ask) (path : Option (List ℕ)) → IsHistory k → k.setup.places ≡ 3 → MayAskMoving (tree_seen k) who → Owns inside (own_told k.entries who.task) → SuitsRunning inside ask path → MayAskFor (tree_seen k) (Running who) path ask
+asks_running : MayWaitNext → MayEndNext → (k : KeeperView) (who : Caller) (inside : Bool) (ask : Ask) (path : Option (List ℕ)) → IsHistory k → k.setup.places ≡ 3 → MayAskMoving (tree_seen k) who → Owns inside (own_told k.entries who.task) → SuitsRunning inside ask path → MayAskFor (tree_seen k) (Running who) path ask
 asks_running wait end k who inside Open path hist three may own s = (may, s.1)
 asks_running wait end k who inside (Calls to) path hist three may own s = absurd s
 asks_running wait end k who inside (Spawn to) path hist three may own s =
@@ -52,7 +52,7 @@ asks_running wait end k who inside (Print value) path hist three may own s = (ma
 asks_running wait end k who inside Census path hist three may own s = (may, s)
 asks_running wait end k who inside Root path hist three may own s = absurd s
 
-pub may_ask : MayWaitNext → MayEndNext → (k : Kept) (t : AnyTicket) (inside : Bool) (ask : Ask) (path : Option (List ℕ)) → IsHistory k → k.setup.places ≡ 3 → Serves (tree_seen k) t → OwnsSo k inside t → Suits t inside ask path → MayAskFor (tree_seen k) t path ask
+pub may_ask : MayWaitNext → MayEndNext → (k : KeeperView) (t : AnyTicket) (inside : Bool) (ask : Ask) (path : Option (List ℕ)) → IsHistory k → k.setup.places ≡ 3 → JobTicketServes (tree_seen k) t → OwnsSo k inside t → Suits t inside ask path → MayAskFor (tree_seen k) t path ask
 may_ask wait end k (Moving who) inside ask path hist three may own s =
     subst (λ (a : Ask). MayAskFor (tree_seen k) (Moving who) path a) (sym s.0)
     (subst (λ (p : Option (List ℕ)). MayAskFor (tree_seen k) (Moving who) p Arrive) (sym s.1) (may, tt))
@@ -72,13 +72,13 @@ least (Running who) = record { ticket = Running who; ask = Open; batch = []; pat
 least (Held who) = record { ticket = Held who; ask = Release; batch = []; path = None }
 least Host = record { ticket = Host; ask = Root; batch = []; path = None }
 
-least_asks : (T : Tree) (t : AnyTicket) → Serves T t → MayApply T (least t)
+least_asks : (T : Tree) (t : AnyTicket) → JobTicketServes T t → MayApply T (least t)
 least_asks T (Moving who) h = (h, tt)
 least_asks T (Running who) h = (h, tt)
 least_asks T (Held who) h = (h, tt)
 least_asks T Host h = (tt, tt)
 
-least_serves : (T : Tree) (t : AnyTicket) → MayApply T (least t) → Serves T t
+least_serves : (T : Tree) (t : AnyTicket) → MayApply T (least t) → JobTicketServes T t
 least_serves T (Moving who) h = h.0
 least_serves T (Running who) h = h.0
 least_serves T (Held who) h = h.0
@@ -92,7 +92,7 @@ least_ticket Host = refl
 
 -- Other jobs stay good.
 
-module _ (keep : CallsKeepOthers) (spare : CallsSpareScopes) (k k' : Kept) (q : Request) (r : Reply) (hist : IsHistory k') (few : HasNumbers (tree_seen k')) (h : Applied k q r k') where
+module _ (keep : CallsKeepOthers) (spare : CallsSpareScopes) (k k' : KeeperView) (q : Request) (r : Reply) (hist : IsHistory k') (few : HasNumbers (tree_seen k')) (h : Applied k q r k') where
   pub others : (j u : Job) → q.ticket ≡ j.task → IsGoodJob k u → Apart j u → IsGoodJob k' u
   others j u is fits apart =
       let p = least u.task in
@@ -115,7 +115,7 @@ weaker T w P Q f h =
       numbers = h.numbers;
     }
 
-served : (T : Tree) (t : AnyTicket) (inside : Bool) (ask : Ask) (path : Option (List ℕ)) → Suits t inside ask path → MayAskFor T t path ask → Serves T t
+served : (T : Tree) (t : AnyTicket) (inside : Bool) (ask : Ask) (path : Option (List ℕ)) → Suits t inside ask path → MayAskFor T t path ask → JobTicketServes T t
 served T (Moving w) inside ask path s may = (subst (λ (a : Ask). MayAskFor T (Moving w) path a) s.0 may).0
 served T (Running w) inside Open path s may = may.0
 served T (Running w) inside (Calls to) path s may = absurd s
@@ -130,17 +130,17 @@ served T (Running w) inside Root path s may = absurd s
 served T (Held w) inside ask path s may = (subst (λ (a : Ask). MayAskFor T (Held w) path a) s.0 may).0
 served T Host inside ask path s may = tt
 
-served_by : (T : Tree) (q : Request) (inside : Bool) → Suits q.ticket inside q.ask q.path → (z : Request) → z ≡ q → MayApply T z → (t : AnyTicket) → Some z.ticket ≡ Some t → Serves T t
+served_by : (T : Tree) (q : Request) (inside : Bool) → Suits q.ticket inside q.ask q.path → (z : Request) → z ≡ q → MayApply T z → (t : AnyTicket) → Some z.ticket ≡ Some t → JobTicketServes T t
 served_by T q inside suits z e may t is =
     let it : z.ticket ≡ t = cc in
-    subst (λ (x : AnyTicket). Serves T x) it
+    subst (λ (x : AnyTicket). JobTicketServes T x) it
     (served T z.ticket inside z.ask z.path (subst (λ (y : Request). Suits y.ticket inside y.ask y.path) (sym e) suits) may)
 
-runs_on : (T : Tree) (w : Caller) (t : AnyTicket) → MayAskMoving T w → Some (Running w) ≡ Some t → Serves T t
-runs_on T w t h e = let it : Running w ≡ t = cc in subst (λ (x : AnyTicket). Serves T x) it h
+runs_on : (T : Tree) (w : Caller) (t : AnyTicket) → MayAskMoving T w → Some (Running w) ≡ Some t → JobTicketServes T t
+runs_on T w t h e = let it : Running w ≡ t = cc in subst (λ (x : AnyTicket). JobTicketServes T x) it h
 
-waits_on : (T : Tree) (w : Caller) (t : AnyTicket) → MayAskRelease T w → Some (Held w) ≡ Some t → Serves T t
-waits_on T w t h e = let it : Held w ≡ t = cc in subst (λ (x : AnyTicket). Serves T x) it h
+waits_on : (T : Tree) (w : Caller) (t : AnyTicket) → MayAskRelease T w → Some (Held w) ≡ Some t → JobTicketServes T t
+waits_on T w t h e = let it : Held w ≡ t = cc in subst (λ (x : AnyTicket). JobTicketServes T x) it h
 
 no_ticket : {C : Type 0} (t : AnyTicket) → None ≡ Some t → C
 no_ticket t e = absurd (let z : ⊥ = cc in z)
@@ -148,7 +148,7 @@ no_ticket t e = absurd (let z : ⊥ = cc in z)
 came_back : (q z : Request) → NoMemory z ≡ NoMemory q → z ≡ q
 came_back q z e = cc
 
-goes_on : (T : Tree) (k k' : Kept) (q : Request) (r : Reply) (inside : Bool) → Suits q.ticket inside q.ask q.path → Applied k q r k' → MayGoOn T r → (t : AnyTicket) → asking_in r ≡ Some t → Serves T t
+goes_on : (T : Tree) (k k' : KeeperView) (q : Request) (r : Reply) (inside : Bool) → Suits q.ticket inside q.ask q.path → Applied k q r k' → MayGoOn T r → (t : AnyTicket) → asking_in r ≡ Some t → JobTicketServes T t
 goes_on T k k' q (Opened ticket scope) inside s h g t e = runs_on T ticket t g e
 goes_on T k k' q (Called ticket callee) inside s h g t e = waits_on T ticket t g e
 goes_on T k k' q (Spawned ticket child) inside s h g t e = runs_on T ticket t g e
@@ -187,7 +187,7 @@ asked_by q y e = ap (λ (z : Request). asker z.ticket) e
 task_is : (v w : Caller) → v ≡ w → v.task ≡ w.task
 task_is v w e = ap (λ (c : Caller). c.task) e
 
-same_task : (k k' : Kept) (q : Request) (r : Reply) → Applied k q r k' → (t : AnyTicket) (v : Caller) → asking_in r ≡ Some t → asker t ≡ Some v → IsHis q v
+same_task : (k k' : KeeperView) (q : Request) (r : Reply) → Applied k q r k' → (t : AnyTicket) (v : Caller) → asking_in r ≡ Some t → asker t ≡ Some v → IsHis q v
 same_task k k' q (Opened ticket scope) h t v e b = his q h.answers.who ticket v (Running ticket) t (asked_by q _ h.answers.asked) (task_is ticket _ h.answers.ticket_is) refl e b
 same_task k k' q (Called ticket callee) h t v e b = his q h.answers.who ticket v (Held ticket) t (asked_by q _ h.answers.asked) (task_is ticket _ h.answers.ticket_is) refl e b
 same_task k k' q (Spawned ticket child) h t v e b = his q h.answers.who ticket v (Running ticket) t (asked_by q _ h.answers.asked) (task_is ticket _ h.answers.ticket_is) refl e b
@@ -214,7 +214,7 @@ into_one false own s e h = (s, ap (λ (o : Owned). (s, Finish) ∷ o) h)
 suits_as : (q y : Request) (inside : Bool) → Suits q.ticket inside q.ask q.path → q ≡ y → Suits y.ticket inside y.ask y.path
 suits_as q y inside s e = subst (λ (z : Request). Suits z.ticket inside z.ask z.path) e s
 
-owns_on : (k k' : Kept) (q : Request) (r : Reply) (inside : Bool) (own : Owned) → Suits q.ticket inside q.ask q.path → Applied k q r k' → Owns inside own → Owns (inside_after r inside) (owned_by r own)
+owns_on : (k k' : KeeperView) (q : Request) (r : Reply) (inside : Bool) (own : Owned) → Suits q.ticket inside q.ask q.path → Applied k q r k' → Owns inside own → Owns (inside_after r inside) (owned_by r own)
 owns_on k k' q (Opened ticket scope) inside own s h o = into_one inside own scope (suits_as q _ inside s h.answers.asked).0 o
 owns_on k k' q (Called ticket callee) inside own s h o = absurd (suits_as q _ inside s h.answers.asked)
 owns_on k k' q (Spawned ticket child) inside own s h o = o
@@ -229,7 +229,7 @@ owns_on k k' q (NotYet place z) inside own s h o = o
 owns_on k k' q (Lost place at) inside own s h o = o
 owns_on k k' q (NoMemory z) inside own s h o = o
 
-after_fits : CallsGoOn → CallsOwn → (k k' : Kept) (q : Request) (r : Reply) (j : Job) (left : ℕ) → q.ticket ≡ j.task → Suits q.ticket j.inside q.ask q.path → IsHistory k' → HasNumbers (tree_seen k') → IsGoodJob k j → MayApply (tree_seen k) q → Applied k q r k' → (t : AnyTicket) → asking_in r ≡ Some t → IsGoodJob k' (record { task = t; inside = inside_after r j.inside; left = left })
+after_fits : CallsGoOn → CallsOwn → (k k' : KeeperView) (q : Request) (r : Reply) (j : Job) (left : ℕ) → q.ticket ≡ j.task → Suits q.ticket j.inside q.ask q.path → IsHistory k' → HasNumbers (tree_seen k') → IsGoodJob k j → MayApply (tree_seen k) q → Applied k q r k' → (t : AnyTicket) → asking_in r ≡ Some t → IsGoodJob k' (record { task = t; inside = inside_after r j.inside; left = left })
 after_fits go own k k' q r j left is suits hist few fits may h t e =
     record {
       serves = goes_on (tree_seen k') k k' q r j.inside suits h (go k k' q r hist may h few).0 t e;
@@ -243,14 +243,14 @@ after_fits go own k k' q r j left is suits hist few fits may h t e =
 
 -- The job that was started.
 
-starts_so : (T : Tree) (c : Option AnyTicket) (t : AnyTicket) → MayStart T c → c ≡ Some t → Serves T t
+starts_so : (T : Tree) (c : Option AnyTicket) (t : AnyTicket) → MayStart T c → c ≡ Some t → JobTicketServes T t
 starts_so T None t h e = no_ticket t e
-starts_so T (Some (Moving w)) t h e = let it : Moving w ≡ t = cc in subst (λ (x : AnyTicket). Serves T x) it h
-starts_so T (Some (Running w)) t h e = let it : Running w ≡ t = cc in subst (λ (x : AnyTicket). Serves T x) it h
+starts_so T (Some (Moving w)) t h e = let it : Moving w ≡ t = cc in subst (λ (x : AnyTicket). JobTicketServes T x) it h
+starts_so T (Some (Running w)) t h e = let it : Running w ≡ t = cc in subst (λ (x : AnyTicket). JobTicketServes T x) it h
 starts_so T (Some (Held w)) t h e = absurd h
 starts_so T (Some Host) t h e = absurd h
 
-begins : (T : Tree) (r : Reply) (t : AnyTicket) → MayBegin T r → started_in r ≡ Some t → Serves T t
+begins : (T : Tree) (r : Reply) (t : AnyTicket) → MayBegin T r → started_in r ≡ Some t → JobTicketServes T t
 begins T (Opened ticket scope) t h e = no_ticket t e
 begins T (Called ticket callee) t h e = starts_so T callee t h e
 begins T (Spawned ticket child) t h e = starts_so T child t h e
@@ -265,13 +265,13 @@ begins T (NotYet place request) t h e = no_ticket t e
 begins T (Lost place at) t h e = no_ticket t e
 begins T (NoMemory request) t h e = no_ticket t e
 
-fresh_apart : (k k' : Kept) (t : AnyTicket) → ((c : Caller) → asker t ≡ Some c → IsNew k k' c) → (u : Job) → IsGoodJob k u → Apart u (record { task = t; inside = false; left = 0 })
+fresh_apart : (k k' : KeeperView) (t : AnyTicket) → ((c : Caller) → asker t ≡ Some c → IsNew k k' c) → (u : Job) → IsGoodJob k u → Apart u (record { task = t; inside = false; left = 0 })
 fresh_apart k k' t new u fits v w a b e =
     (new w b).other (least u.task) v (least_asks (tree_seen k) u.task fits.serves) (ap asker (least_ticket u.task) ∙ a) e
 
 -- The queue.
 
-keep_all : (k k' : Kept) (j : Job) → ((u : Job) → IsGoodJob k u → Apart j u → IsGoodJob k' u) → (js : List Job) → Each (Apart j) js → AllGoodJobs k js → AllGoodJobs k' js
+keep_all : (k k' : KeeperView) (j : Job) → ((u : Job) → IsGoodJob k u → Apart j u → IsGoodJob k' u) → (js : List Job) → Each (Apart j) js → AllGoodJobs k js → AllGoodJobs k' js
 keep_all k k' j f [] a h = tt
 keep_all k k' j f (u ∷ us) a h = (f u h.0 a.0, h.1, keep_all k k' j f us a.1 h.2)
 
@@ -279,7 +279,7 @@ each_map : (P Q : Job → Type 0) → ((u : Job) → P u → Q u) → (js : List
 each_map P Q f [] h = tt
 each_map P Q f (u ∷ us) h = (f u h.0, each_map P Q f us h.1)
 
-each_fit : (k : Kept) (P : Job → Type 0) → ((u : Job) → IsGoodJob k u → P u) → (js : List Job) → AllGoodJobs k js → Each P js
+each_fit : (k : KeeperView) (P : Job → Type 0) → ((u : Job) → IsGoodJob k u → P u) → (js : List Job) → AllGoodJobs k js → Each P js
 each_fit k P f [] h = tt
 each_fit k P f (u ∷ us) h = (f u h.0, each_fit k P f us h.2)
 
@@ -287,18 +287,18 @@ each_snoc : (P : Job → Type 0) (js : List Job) (a : Job) → Each P js → P a
 each_snoc P [] a h p = (p, tt)
 each_snoc P (u ∷ us) a h p = (h.0, each_snoc P us a h.1 p)
 
-fit_snoc : (k : Kept) (js : List Job) (a : Job) → AllGoodJobs k js → Each (λ u. Apart u a) js → IsGoodJob k a → AllGoodJobs k (js ++ a ∷ [])
+fit_snoc : (k : KeeperView) (js : List Job) (a : Job) → AllGoodJobs k js → Each (λ u. Apart u a) js → IsGoodJob k a → AllGoodJobs k (js ++ a ∷ [])
 fit_snoc k [] a h apart fits = (fits, tt, tt)
 fit_snoc k (u ∷ us) a h apart fits = (h.0, each_snoc (Apart u) us a h.1 apart.0, fit_snoc k us a h.2 apart.1 fits)
 
-setup_same : (k k' : Kept) (q : Request) (r : Reply) → Applied k q r k' → k'.setup ≡ k.setup
+setup_same : (k k' : KeeperView) (q : Request) (r : Reply) → Applied k q r k' → k'.setup ≡ k.setup
 setup_same k k' q r h =
     (elim (is_refusal r) as (λ b. AppliedIf b k q r k' → k'.setup ≡ k.setup) [
       | true ↦ λ (f : Refused k q r k'). f.setup
       | false ↦ λ (a : Answered k q r k'). a.setup
     ]) h
 
-module _ (go : CallsGoOn) (keep : CallsKeepOthers) (own : CallsOwn) (spare : CallsSpareScopes) (started : StartedAreNew) (k k' : Kept) (q : Request) (r : Reply) (j : Job) (js : List Job) (is : q.ticket ≡ j.task) (suits : Suits q.ticket j.inside q.ask q.path) (ready : IsReady k (j ∷ js)) (hist : IsHistory k') (few : HasNumbers (tree_seen k')) (may : MayApply (tree_seen k) q) (h : Applied k q r k') (left : ℕ) where
+module _ (go : CallsGoOn) (keep : CallsKeepOthers) (own : CallsOwn) (spare : CallsSpareScopes) (started : StartedAreNew) (k k' : KeeperView) (q : Request) (r : Reply) (j : Job) (js : List Job) (is : q.ticket ≡ j.task) (suits : Suits q.ticket j.inside q.ask q.path) (ready : IsReady k (j ∷ js)) (hist : IsHistory k') (few : HasNumbers (tree_seen k')) (may : MayApply (tree_seen k) q) (h : Applied k q r k') (left : ℕ) where
   abbrev after_is : AnyTicket → Job
   after_is t = record { task = t; inside = inside_after r j.inside; left = left }
 
@@ -364,14 +364,14 @@ if_few {A} b x P o e f = subst (λ (z : Option A). IfSome z (λ _. P)) (sym e) (
 no_caller : {C : Type 0} (v : Caller) → None ≡ Some v → C
 no_caller v e = absurd (let z : ⊥ = cc in z)
 
-main_fits : (k : Kept) (w : Caller) (left : ℕ) → k.entries ≡ [] → w ≡ main_caller → IsGoodJob k (record { task = Running w; inside = false; left = left })
+main_fits : (k : KeeperView) (w : Caller) (left : ℕ) → k.entries ≡ [] → w ≡ main_caller → IsGoodJob k (record { task = Running w; inside = false; left = left })
 main_fits k w left none is =
     record { serves = main_begins k.setup.places k.entries w none is; owns = λ v b. ap (λ (es : List Entry). own_told es v.task) none }
 
 pub queue_opens : (us vs ws : List Job) (a b : Job) → us ≡ [] → vs ≡ us ++ a ∷ [] → ws ≡ vs ++ b ∷ [] → ws ≡ a ∷ b ∷ []
 queue_opens us vs ws a b e f g = g ∙ ap (λ (js : List Job). js ++ b ∷ []) (f ∙ ap (λ (js : List Job). js ++ a ∷ []) e)
 
-pub opening_ready : (k : Kept) (w : Caller) (left more : ℕ) (js : List Job) → k.setup.places ≡ 3 → k.entries ≡ [] → w ≡ main_caller → js ≡ record { task = Running w; inside = false; left = left } ∷ record { task = Host; inside = false; left = more } ∷ [] → IsReady k js
+pub opening_ready : (k : KeeperView) (w : Caller) (left more : ℕ) (js : List Job) → k.setup.places ≡ 3 → k.entries ≡ [] → w ≡ main_caller → js ≡ record { task = Running w; inside = false; left = left } ∷ record { task = Host; inside = false; left = more } ∷ [] → IsReady k js
 opening_ready k w left more js three none is e =
     record {
       places = three;

@@ -3,7 +3,7 @@ use Rattle.std.specs.Prelude.{◌≡◌, ◌≢◌, ◌<◌, ℕ, Bool, true, fa
 use Rattle.rx_base.specs.declared.ids.ScopeId.{ScopeId}
 use Rattle.rx_rules.specs.declared.tasks.Kind.TheVariants.{Finish}
 use Rattle.rx_rules.specs.Tree.{Tree}
-use Rattle.rx_sound.specs.Sound.{Each}
+use Rattle.rx_tree_laws.specs.Sound.{Each}
 use Rattle.rx_finish.specs.declared.ledger.Caller.{Caller}
 use Rattle.rx_finish.specs.Callers.{MayAskMoving, MayAskArrive, MayAskRelease}
 use Rattle.rx_ticket.specs.declared.tickets.AnyTicket.{AnyTicket}
@@ -18,16 +18,16 @@ use Rattle.rx_ledger.specs.Answering.{asker}
 use Rattle.rx_ledger.specs.Asking.{HasPath, NoPath}
 use Rattle.rx_ledger.specs.Calling.{tree_seen}
 use Rattle.rx_ledger.specs.Holding.{asking_in, started_in}
-use Rattle.rx_ledger.specs.Kept.{Kept}
+use Rattle.rx_ledger.specs.Kept.{KeeperView}
 use Rattle.rx_ledger.specs.Owned.{Owned, own_told}
 use Rattle.tasks_by_hand.specs.declared.Job.{Job}
 
 -- a task that travels may arrive, one that is at a place may go on, one that waits may ask for its release
-abbrev pub Serves : Tree → AnyTicket → Type 0
-Serves T (Moving who) = MayAskArrive T who
-Serves T (Running who) = MayAskMoving T who
-Serves T (Held who) = MayAskRelease T who
-Serves T Host = Unit {0}
+abbrev pub JobTicketServes : Tree → AnyTicket → Type 0
+JobTicketServes T (Moving who) = MayAskArrive T who
+JobTicketServes T (Running who) = MayAskMoving T who
+JobTicketServes T (Held who) = MayAskRelease T who
+JobTicketServes T Host = Unit {0}
 
 -- the scopes are one finish, or none
 abbrev pub Owns : Bool → Owned → Type 0
@@ -35,12 +35,12 @@ Owns true own = (s : ScopeId) × (own ≡ (s, Finish) ∷ [])
 Owns false own = own ≡ []
 
 -- so it is with the scopes of the ticket's task, as the entries tell them
-abbrev pub OwnsSo : Kept → Bool → AnyTicket → Type 0
+abbrev pub OwnsSo : KeeperView → Bool → AnyTicket → Type 0
 OwnsSo k inside t = (who : Caller) → asker t ≡ Some who → Owns inside (own_told k.entries who.task)
 
 -- the job's ticket is good
-pub record IsGoodJob (k : Kept) (j : Job) : Type 0 where
-  pub serves : Serves (tree_seen k) j.task
+pub record IsGoodJob (k : KeeperView) (j : Job) : Type 0 where
+  pub serves : JobTicketServes (tree_seen k) j.task
   pub owns : OwnsSo k j.inside j.task
 
 -- the jobs are not of one task
@@ -48,12 +48,12 @@ abbrev pub Apart : Job → Job → Type 0
 Apart i j = (v w : Caller) → asker i.task ≡ Some v → asker j.task ≡ Some w → v.task.0 ≢ w.task.0
 
 -- each job's ticket is good, and no two are of one task
-abbrev pub AllGoodJobs : Kept → List Job → Type 0
+abbrev pub AllGoodJobs : KeeperView → List Job → Type 0
 AllGoodJobs k [] = Unit {0}
 AllGoodJobs k (j ∷ js) = IsGoodJob k j × Each (Apart j) js × AllGoodJobs k js
 
 -- there are three places, and the jobs fit
-pub record IsReady (k : Kept) (js : List Job) : Type 0 where
+pub record IsReady (k : KeeperView) (js : List Job) : Type 0 where
   pub places : k.setup.places ≡ 3
   pub fit : AllGoodJobs k js
 

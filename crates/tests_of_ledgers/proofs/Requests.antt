@@ -9,14 +9,14 @@ use Rattle.rx_coordinator.specs.declared.requests.Answer.TheVariants.{Bad, Full,
 use Rattle.rx_coordinator.specs.declared.waiters.Waiters.{Waiters}
 use Rattle.rx_coordinator.specs.declared.parking.Freed.{Freed}
 use Rattle.rx_coordinator.specs.declared.parking.Freed.TheVariants.{One, NoOne, Short}
-use Rattle.rx_coordinator.specs.Stands.{Asked, Landing}
+use Rattle.rx_coordinator.specs.Stands.{IsReplyTo, Landing}
 use Rattle.rx_coordinator.specs.Parking.{AskedBeside, FreedIs, request_of, answer_to}
 
 landed : (p : ℕ) (es : List Entry) (t : TaskId) (S : List Entry → Type 0) → Landing p es t S → (fs : List Entry) × S fs
 landed p es t S (inl h) = (es ++ h.0 ∷ [], h.3)
 landed p es t S (inr h) = (es, h.1)
 
-asked : (p : ℕ) (es : List Entry) (q : Request) (a : Answer) (S : List Entry → Type 0) → Asked p es q a S → (fs : List Entry) × S fs
+asked : (p : ℕ) (es : List Entry) (q : Request) (a : Answer) (S : List Entry → Type 0) → IsReplyTo p es q a S → (fs : List Entry) × S fs
 asked p es q Bad S h = (es, h.1)
 asked p es q Full S h = (es, h.2)
 asked p es q NoMemory S h = (es, h.1)

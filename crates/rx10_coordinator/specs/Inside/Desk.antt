@@ -8,7 +8,7 @@ use Rattle.rx10_coordinator.specs.declared.received.Extent.TheVariants.{Whole, L
 use Rattle.rx10_coordinator.specs.declared.received.Received.{Received}
 use Rattle.rx10_coordinator.specs.declared.desk.Desk.{Desk}
 use Rattle.rx_lines.specs.Session.{Between, IsOpen, AllAnswered, greeting}
-use Rattle.rx_lines.specs.Inside.Telling.{Tells}
+use Rattle.rx_lines.specs.Inside.Telling.{TextIsTold}
 use Rattle.rx10_coordinator.specs.Inside.Logging.{IsLogged, IsTorn}
 
 -- the bytes that are kept of a line are all of it, or it has too many, or memory ran out
@@ -22,12 +22,12 @@ abbrev pub IsLine : Received → List ℕ → Type 0
 IsLine r line = Keeps r.extent r.bytes.items line
 
 -- the coordinator stands where the session stands
-pub record Holds (p : ℕ) (b : Between) (k : Parking) : Type 0 where
+pub record DeskInvariant (p : ℕ) (b : Between) (k : Parking) : Type 0 where
   pub parks : Parks k p b.entries
   pub waiters : b.waiters ≡ k.waiters
 
 -- all lines of these bytes are answered, and the log has the entries
-pub record Serves (p : ℕ) (w : Option (List ℕ)) (f : ℕ) (v : Option (List ℕ)) (g : ℕ)
+pub record LinesAnswered (p : ℕ) (w : Option (List ℕ)) (f : ℕ) (v : Option (List ℕ)) (g : ℕ)
     (x : Option (List ℕ)) (h : ℕ) (y : Option (List ℕ)) (i : ℕ)
     (d : Desk) (r : Received) (bytes : List ℕ) : Type 0 where
   pub lines : List (List ℕ)
@@ -38,9 +38,9 @@ pub record Serves (p : ℕ) (w : Option (List ℕ)) (f : ℕ) (v : Option (List 
   pub cut : pieces 10 bytes ≡ lines ++ last ∷ []
   pub opens : IsOpen before
   pub answered : AllAnswered p before lines replies after
-  pub holds : Holds p after d.parking
+  pub holds : DeskInvariant p after d.parking
   pub reads : IsLine r last
-  pub tells : Tells w f v g d.pending (greeting p ++ replies)
+  pub tells : TextIsTold w f v g d.pending (greeting p ++ replies)
   pub logged : IsLogged x h y i d.log after.entries
 
 -- of these bytes a front is answered so, and then a write to the log has failed
@@ -58,5 +58,5 @@ pub record Breaks (p : ℕ) (w : Option (List ℕ)) (f : ℕ) (v : Option (List 
   pub cut : pieces 10 heard ≡ lines ++ last ∷ []
   pub opens : IsOpen before
   pub answered : AllAnswered p before lines replies after
-  pub tells : Tells w f v g d.pending (greeting p ++ replies)
+  pub tells : TextIsTold w f v g d.pending (greeting p ++ replies)
   pub torn : IsTorn x h y i after.entries

@@ -18,8 +18,8 @@ use Rattle.rx_objects.specs.declared.ledger.LedgerFixed.{LedgerFixed}
 use Rattle.rx_objects.specs.Place.{shown}
 use Rattle.rx_activities.specs.declared.hand.Hand.{Hand}
 use Rattle.rx_activities.specs.declared.replies.Child.{Child}
-use Rattle.rx_activities.specs.Knowing.{Knows}
-use Rattle.rx_activities.specs.Starting.{Comes}
+use Rattle.rx_activities.specs.Knowing.{ActivityInvariant}
+use Rattle.rx_activities.specs.Starting.{TravellerInvariant}
 
 -- the activity has these, and its entries name all its events
 pub record IsWith (c : Control) (place : PlaceId) (pass : Pass EntryItem) (seat : Pass EventItem) (ticket : AnyTicket)
@@ -37,14 +37,15 @@ pub record IsWith (c : Control) (place : PlaceId) (pass : Pass EntryItem) (seat 
 -- a task that starts at its starter's place has a pass of the place's book, and knows what it has to
 abbrev pub StaysWith : BookName LedgerFixed → PlaceId → Caller → Control → Pass EntryItem → Option (Pass EventItem) → Type 0
 StaysWith L place who c pass None = ⊥
-StaysWith L place who c pass (Some seat) = (hand : Hand) → IsWith c place pass seat (Running who) [] hand → Knows L hand
+StaysWith L place who c pass (Some seat) = (hand : Hand) → IsWith c place pass seat (Running who) [] hand → ActivityInvariant L hand
 
 -- the same of any task that starts with these, at its starter's place or on its way
-abbrev pub Starts : BookName LedgerFixed → PlaceId → AnyTicket → Control → Pass EntryItem → Option (Pass EventItem) → Type 0
-Starts L place (Moving who) c pass seat = (control : Box Control) → control.value ≡ c → Comes L (record { control = control; ticket = who; pass = pass })
-Starts L place (Running who) c pass seat = StaysWith L place who c pass seat
-Starts L place (Held who) c pass seat = ⊥
-Starts L place Host c pass seat = ⊥
+abbrev pub StartsKnowing : BookName LedgerFixed → PlaceId → AnyTicket → Control → Pass EntryItem → Option (Pass EventItem) → Type 0
+StartsKnowing L place (Moving who) c pass seat = (control : Box Control) → control.value ≡ c
+    → TravellerInvariant L (record { control = control; ticket = who; pass = pass })
+StartsKnowing L place (Running who) c pass seat = StaysWith L place who c pass seat
+StartsKnowing L place (Held who) c pass seat = ⊥
+StartsKnowing L place Host c pass seat = ⊥
 
 -- the child's pass has met a note of its starter's pass
 pub record HasMet (own pass met : Pass EntryItem) : Type 0 where
@@ -57,7 +58,7 @@ pub record HasMet (own pass met : Pass EntryItem) : Type 0 where
 pub record IsBorn (L : BookName LedgerFixed) (place : PlaceId) (pass : Pass EntryItem) (ticket : AnyTicket) (child : Child)
     : Type 0 where
   pub word : word_of child.pass ≡ L.word
-  pub begins : (met : Pass EntryItem) → HasMet child.pass pass met → Starts L place ticket child.control.value met child.seat
+  pub begins : (met : Pass EntryItem) → HasMet child.pass pass met → StartsKnowing L place ticket child.control.value met child.seat
 
 abbrev pub IsStarted : BookName LedgerFixed → PlaceId → Pass EntryItem → Option AnyTicket → Option Child → Type 0
 IsStarted L place pass None child = Unit {0}

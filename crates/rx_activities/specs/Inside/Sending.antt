@@ -36,7 +36,7 @@ use Rattle.rx_objects.specs.Ledger.{LedgerDoes, LedgerIsLegal}
 use Rattle.rx_objects.specs.Place.{shown}
 use Rattle.rx_activities.specs.declared.hand.Hand.{Hand}
 use Rattle.rx_activities.specs.declared.replies.Child.{Child}
-use Rattle.rx_activities.specs.Knowing.{Knows}
+use Rattle.rx_activities.specs.Knowing.{ActivityInvariant}
 use Rattle.rx_activities.specs.Inside.Births.{IsStarted, IsWith}
 
 -- the step is a request to the ledger, or the end
@@ -140,7 +140,7 @@ pub record IsReady (shape : Shape) (next : Next) (old new : Control) : Type 0 wh
 -- what was sent for an activity a which knew what it has to, and what it holds with the answer
 pub record WasSent (shape : Shape) (L : BookName LedgerFixed) (rest : Hand) (reply : Reply) (child : Option Child) : Type 0 where
   pub hand : Hand
-  pub knows : Knows L hand
+  pub knows : ActivityInvariant L hand
   pub next : Next
   pub call : IsCall next
   pub does_next : (t : Term) → StandsFor shape hand.control.value t → next ≡ next_of (does hand.control.value.vars hand.place.0 t)
@@ -167,7 +167,7 @@ pub record WasGranted (shape : Shape) (L : BookName LedgerFixed) (rest : Hand) (
   pub word : word_of rest.pass ≡ L.word
   pub lawful : LedgerIsLegal L.fixed (view_of rest.pass).seen
   pub goes : (c : Control) (hand : Hand) → ((t : Term) → StandsFor shape rest.control.value t → StandsFor shape c (granted faults t))
-      → c.vars ≡ rest.control.value.vars → IsWith c rest.place rest.pass rest.seat ticket [] hand → Knows L hand
+      → c.vars ≡ rest.control.value.vars → IsWith c rest.place rest.pass rest.seat ticket [] hand → ActivityInvariant L hand
   pub begins : IsStarted L rest.place rest.pass started child
 
 -- the census was granted, and tells so many places
@@ -187,4 +187,4 @@ pub record WasCounted (shape : Shape) (L : BookName LedgerFixed) (rest : Hand) (
       → ((t : Term) (here : PlaceId) (path : List ℕ) → StandsFor shape rest.control.value t
       → next_of (does rest.control.value.vars here.0 t) ≡ BookStep Census
       → c.vars ≡ vars_told (does rest.control.value.vars here.0 t) (CensusAct places path) rest.control.value.vars)
-      → IsWith c rest.place rest.pass rest.seat ticket [] hand → Knows L hand
+      → IsWith c rest.place rest.pass rest.seat ticket [] hand → ActivityInvariant L hand

@@ -103,8 +103,8 @@ abbrev pub sofar_of : Walk → Sofar
 sofar_of w = record { seen = seen_all w.seen.items; count = w.count }
 
 -- the code's names are those that are known
-abbrev pub Knows : List NameId → List ℕ → Type 0
-Knows ns known = (n : ℕ) → is_in n ns ≡ has n known
+abbrev pub KnowsNames : List NameId → List ℕ → Type 0
+KnowsNames ns known = (n : ℕ) → is_in n ns ≡ has n known
 
 -- the parts of a statement
 abbrev pub parts_of : Node → Parts

@@ -63,7 +63,7 @@ pub record SettlesTo (s : Shape) (base : List ℕ) (frames : List Frame) (raised
   pub is : term_of raised levels_left ≡ term_of raised levels
 
 -- a position of a block stands for a statement and those after it
-pub record Awaits (s : Shape) (block : BlockId) (next : ℕ) (stmt : Stmt) (more : Block) : Type 0 where
+pub record PositionStands (s : Shape) (block : BlockId) (next : ℕ) (stmt : Stmt) (more : Block) : Type 0 where
   pub ids : List StmtId
   pub block_is : slice_get s.blocks block.0 ≡ Some ids
   pub left : ListStands s (drop next ids) (Then stmt more)
@@ -74,7 +74,7 @@ pub record AtStatement (s : Shape) (c : Control) (t : Term) (below : List Frame)
   pub stmt : Stmt
   pub more : Block
   pub others : List Level
-  pub awaits : Awaits s block next stmt more
+  pub awaits : PositionStands s block next stmt more
   pub frames : c.frames.items ≡ below ++ Seq block next part ∷ []
   pub rest : FramesStand s c.base below others
   pub calm : c.raised ≡ None

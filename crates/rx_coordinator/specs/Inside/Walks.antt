@@ -12,9 +12,9 @@ use Rattle.rx_coordinator.specs.declared.requests.Answer.{Answer}
 use Rattle.rx_coordinator.specs.declared.requests.Answer.TheVariants.{NotYet, NoMemory}
 use Rattle.rx_coordinator.specs.declared.parking.Retried.{Retried}
 use Rattle.rx_coordinator.specs.declared.parking.Retried.TheVariants.{Freed, Passed, Short}
-use Rattle.rx_coordinator.specs.Stands.{Asked, May}
-use Rattle.rx_coordinator.specs.Waiters.{waiter_at, IsDue}
-use Rattle.rx_coordinator.specs.Parking.{WaitsThere, IsThere, scope_numbered, request_of, answer_to}
+use Rattle.rx_coordinator.specs.Stands.{IsReplyTo, May}
+use Rattle.rx_coordinator.specs.Waiters.{waiter_at, ScopeIsDue}
+use Rattle.rx_coordinator.specs.Parking.{WaiterIsThere, IsThere, scope_numbered, request_of, answer_to}
 
 -- each scope on the chain from `from` for which someone waits is on the chain from `to`
 abbrev pub AllAbove : Tree → Waiters → ScopeId → ScopeId → Type 0
@@ -28,20 +28,20 @@ Nearest T ws from None = (n : ℕ) (who : Waiter) → waiter_at ws n ≡ Some wh
 
 -- who waits does so there, and stands unstruck, or is due
 pub record AllThere (T : Tree) (ws : Waiters) (due : Due) : Type 0 where
-  pub there : (n : ℕ) (who : Waiter) → waiter_at ws n ≡ Some who → WaitsThere T n who
-  pub unstruck : (n : ℕ) (who : Waiter) → waiter_at ws n ≡ Some who → IsDue due n ⊎ IsThere T who
+  pub there : (n : ℕ) (who : Waiter) → waiter_at ws n ≡ Some who → WaiterIsThere T n who
+  pub unstruck : (n : ℕ) (who : Waiter) → waiter_at ws n ≡ Some who → ScopeIsDue due n ⊎ IsThere T who
 
 -- each scope on the chain that is quiet and for which someone waits is due
 abbrev pub AllDue : Tree → Waiters → ScopeId → Due → Type 0
 AllDue T ws from due =
     (n : ℕ) (who : Waiter) → waiter_at ws n ≡ Some who → on_chain T (scope_numbered n) from ≡ true → quiet T (scope_numbered n) ≡ true
-    → IsDue due n
+    → ScopeIsDue due n
 
 -- the first scope that is due and for which someone waits, or there is none
 abbrev pub NextDue : Waiters → Due → Option (ScopeId × Waiter) → Type 0
 NextDue ws due (Some x) =
-    IsDue due x.0.0 × (waiter_at ws x.0.0 ≡ Some x.1) × ((n : ℕ) → IsDue due n → n < x.0.0 → waiter_at ws n ≡ None)
-NextDue ws due None = (n : ℕ) → IsDue due n → waiter_at ws n ≡ None
+    ScopeIsDue due x.0.0 × (waiter_at ws x.0.0 ≡ Some x.1) × ((n : ℕ) → ScopeIsDue due n → n < x.0.0 → waiter_at ws n ≡ None)
+NextDue ws due None = (n : ℕ) → ScopeIsDue due n → waiter_at ws n ≡ None
 
 -- no row has changed, or that of one scope was taken away
 abbrev pub IsSame : Waiters → Waiters → Type 0
@@ -52,7 +52,7 @@ IsLeft n ws us = (m : ℕ) → waiter_at us m ≡ cond (m == n) None (waiter_at 
 
 -- who asked again is released and waits no more, or has to wait on, or may not ask any more and waits no more
 abbrev pub RetriedIs : ℕ → List Entry → ℕ → Waiter → Retried → Waiters → (List Entry → Type 0) → Waiters → Type 0
-RetriedIs p es n who (Freed o) ws S us = Asked p es (request_of who) (answer_to who o) S × IsLeft n ws us
+RetriedIs p es n who (Freed o) ws S us = IsReplyTo p es (request_of who) (answer_to who o) S × IsLeft n ws us
 RetriedIs p es n who Passed ws S us =
     S es × (IsSame ws us ⊎ ((May (tree_of p es) (request_of who) → ⊥) × IsLeft n ws us))
 RetriedIs p es n who Short ws S us = S es × IsSame ws us

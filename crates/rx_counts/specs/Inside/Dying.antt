@@ -14,7 +14,7 @@ use Rattle.rx_counts.specs.declared.record.Sums.{Sums}
 use Rattle.rx_counts.specs.declared.record.Record.{Record}
 use Rattle.rx_counts.specs.Stands.{table_size, count_in, in_sums, masking, RecordsFit, AllMasked, IsShaped}
 use Rattle.rx_counts.specs.Keeping.{stands_home}
-use Rattle.rx_sound.specs.Sound.{Each}
+use Rattle.rx_tree_laws.specs.Sound.{Each}
 
 -- whether the death of place d hits the place or the pair of cell k in the table of n places
 abbrev pub hits_cell : ℕ → ℕ → ℕ → Bool

@@ -8,7 +8,7 @@ use Rattle.rx_base.specs.declared.ids.ScopeId.{ScopeId}
 use Rattle.rx_rules.specs.declared.tasks.Scope.{Scope}
 use Rattle.rx_rules.specs.Tree.{Tree, is_scope, scope_of, opened_by, quiet}
 use Rattle.rx_rules.specs.Entries.{MayFree, without}
-use Rattle.rx_sound.specs.Chains.{meets}
+use Rattle.rx_tree_laws.specs.Chains.{meets}
 use Rattle.rx_finish.specs.declared.ledger.LedgerFault.{LedgerFault}
 use Rattle.rx_finish.specs.declared.ledger.LedgerFault.TheVariants.{NotYet, Lost, NoMemory}
 use Rattle.rx_finish.specs.declared.ledger.Outcome.{Outcome}
@@ -47,7 +47,7 @@ parent_gone rs None = false
 parent_gone rs (Some r) = elim r.parent [ Some p ↦ is_none (record_at rs p.0) | None ↦ false ]
 
 -- The records are those of a tree in which the scope stands, and n scopes are below it.
-pub record Takes (T : Tree) (s : ScopeId) (n : ℕ) (rs : List (Option (Box Record))) : Type 0 where
+pub record ScopesBelow (T : Tree) (s : ScopeId) (n : ℕ) (rs : List (Option (Box Record))) : Type 0 where
   pub shaped : IsShaped T rs
   pub stands : meets s T.scopes (Some s) ≡ true
   pub many : count_by (λ g. meets s T.scopes (Some g.number)) T.scopes ≡ n + 1

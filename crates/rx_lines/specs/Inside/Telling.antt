@@ -10,7 +10,7 @@ IsLeft false f g rest text = rest ≡ text
 IsLeft true f g rest text = Rose f g × (0 < length rest)
 
 -- This text was told since the sink had written w and failed f times. Now it has written v and failed g times.
-pub record Tells (w : Option (List ℕ)) (f : ℕ) (v : Option (List ℕ)) (g : ℕ) (t : Pending) (text : List ℕ) : Type 0 where
+pub record TextIsTold (w : Option (List ℕ)) (f : ℕ) (v : Option (List ℕ)) (g : ℕ) (t : Pending) (text : List ℕ) : Type 0 where
   pub sent : List ℕ
   pub rest : List ℕ
   pub later : f ≤ g
@@ -21,5 +21,5 @@ pub record Tells (w : Option (List ℕ)) (f : ℕ) (v : Option (List ℕ)) (g : 
 -- from one moment of the sink and the text that is pending to another one this piece was told
 abbrev pub Puts : {K : Type 0} → (K → Option (List ℕ)) → (K → ℕ) → K → Pending → K → Pending → List ℕ → Type 0
 Puts written faults o t n u piece =
-    (w : Option (List ℕ)) (f : ℕ) (text : List ℕ) → Tells w f (written o) (faults o) t text
-    → Tells w f (written n) (faults n) u (text ++ piece)
+    (w : Option (List ℕ)) (f : ℕ) (text : List ℕ) → TextIsTold w f (written o) (faults o) t text
+    → TextIsTold w f (written n) (faults n) u (text ++ piece)

@@ -12,7 +12,7 @@ use Rattle.rx_ledger.specs.Answering.{main_caller}
 use Rattle.atomic_table.specs.Seated.{TableId}
 use Rattle.rx_rules.specs.Run.{in_all, death_number}
 use Rattle.rx_history.specs.Setups.{given}
-use Rattle.rx_store.specs.Kept.{Kept, ends_closed, last_stamp}
+use Rattle.rx_store.specs.Kept.{StoreView, ends_closed, last_stamp}
 use Rattle.rx_book.specs.declared.views.Stamped.{Stamped}
 use Rattle.rx_book.specs.declared.views.View.{View}
 use Rattle.rx_book.specs.declared.passes.Pass.{Pass}
@@ -27,7 +27,7 @@ use Rattle.rx_parts.specs.declared.items.EventItem.{EventItem}
 use Rattle.rx_objects.specs.declared.ledger.LedgerFixed.{LedgerFixed}
 use Rattle.rx_objects.specs.Ledger.{LedgerIsLegal, is_root_done}
 use Rattle.rx_objects.specs.Noted.{Notes, AllNoted}
-use Rattle.rx_objects.specs.Ending.{IsHost, RootIsTold, SeesEnd, IsMet, EachEnds}
+use Rattle.rx_objects.specs.Ending.{HostKnows, RootIsTold, SeesEnd, IsMet, EachEnds}
 use Rattle.rx_objects.specs.Opened.{IsFirst}
 use Rattle.rx_stations.specs.Stations.{PostName}
 use Rattle.rx_live.specs.declared.ending.Released.{Released}
@@ -62,7 +62,7 @@ pub record ArePlacesWith (L : BookName LedgerFixed) (p : ℕ) (stations : List P
 -- what the host is told of its request: the root is released, or it may ask again
 abbrev pub IsAnswered : LedgerFixed → View EntryItem → Released → Type 0
 IsAnswered f v (Done notes) = RootIsTold f notes.items v.seen
-IsAnswered f v NotYet = IsHost v
+IsAnswered f v NotYet = HostKnows v
 IsAnswered f v NoMemory = Unit {0}
 
 -- the answer to the host is told as it came
@@ -81,7 +81,7 @@ pub record MeetsAt (seats : List (Pass EventItem)) (at : ℕ) (n : View EventIte
   pub stands : seats' ≡ slice_set seats at after
 
 -- the stores have so many words each
-abbrev pub HaveWords : ℕ → List Kept → Type 0
+abbrev pub HaveWords : ℕ → List StoreView → Type 0
 HaveWords n [] = Unit {0}
 HaveWords n (s ∷ ss) = (s.words ≡ n) × HaveWords n ss
 
@@ -96,14 +96,15 @@ HasSeen host None = Unit {0}
 HasSeen host (Some pass) = IsPrefix (view_of pass).seen (view_of host).seen
 
 -- all places have ended with these stores
-pub record PlacesEnded (L : BookName LedgerFixed) (v : View EntryItem) (views : List (View EventItem)) (stores : List Kept) : Type 0 where
+pub record PlacesEnded (L : BookName LedgerFixed) (v : View EntryItem) (views : List (View EventItem))
+    (stores : List StoreView) : Type 0 where
   pub histories : List (List (Stamped EventItem))
   pub each : EachEnds L v.seen v.reach views 0 stores histories
   pub one_each : length histories ≡ length views
   pub words : HaveWords L.fixed.setup.heap stores
 
 -- the run is over but for the ledger's book and the closes of the stores of dead places
-pub record RunEnds (L : BookName LedgerFixed) (pass : Pass EntryItem) (stores : List Kept) : Type 0 where
+pub record RunEnds (L : BookName LedgerFixed) (pass : Pass EntryItem) (stores : List StoreView) : Type 0 where
   pub sees : SeesEnd L pass
   pub notes : Notes
   pub noted : AllNoted notes (items_of (view_of pass).seen)
@@ -113,12 +114,12 @@ pub record RunEnds (L : BookName LedgerFixed) (pass : Pass EntryItem) (stores : 
   pub all : length views ≡ in_all (given L.fixed.setup)
 
 -- the store is open, and none of its stamps is above the number of its place's death
-abbrev pub ShutsAt : Option ℕ → Kept → Type 0
+abbrev pub ShutsAt : Option ℕ → StoreView → Type 0
 ShutsAt None s = ends_closed s.events ≡ false
 ShutsAt (Some d) s = (ends_closed s.events ≡ false) × (last_stamp s.events ≤ d)
 
 -- so it is with the stores of places p, p + 1, ..
-abbrev pub MayBeShut : List Entry → ℕ → List Kept → Type 0
+abbrev pub MayBeShut : List Entry → ℕ → List StoreView → Type 0
 MayBeShut es p [] = Unit {0}
 MayBeShut es p (s ∷ ss) = ShutsAt (death_number 0 (record { 0 = p }) es) s × MayBeShut es (suc p) ss
 
@@ -126,7 +127,7 @@ MayBeShut es p (s ∷ ss) = ShutsAt (death_number 0 (record { 0 = p }) es) s × 
 pub record MayRelease (L : BookName LedgerFixed) (pass : Pass EntryItem) : Type 0 where
   pub word : word_of pass ≡ L.word
   pub lawful : LedgerIsLegal L.fixed (view_of pass).seen
-  pub host : IsHost (view_of pass)
+  pub host : HostKnows (view_of pass)
 
 -- what a run begins with: the main activity's control, ticket and pass, and the words of the books of all places
 pub record IsMain (L : BookName LedgerFixed) (control : Control) (ticket : Caller) (pass : Pass EntryItem) (words : List TableId)

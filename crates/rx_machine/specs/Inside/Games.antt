@@ -12,9 +12,9 @@ use Rattle.rx_machine.specs.declared.machine.Machine.{Machine}
 use Rattle.rx_machine.specs.declared.seat.Seat.{Seat}
 use Rattle.rx_machine.specs.declared.seat.Mover.{Mover}
 use Rattle.rx_machine.specs.Holds.{Acting, Landing, CanTurn}
-use Rattle.rx_machine.specs.Picking.{IsReady}
+use Rattle.rx_machine.specs.Picking.{AreEnabled}
 use Rattle.rx_machine.specs.Refusals.{HasStopped, NothingMore}
-use Rattle.rx_machine.specs.Runs.{Calm, Falling, Taken, HasMoved}
+use Rattle.rx_machine.specs.Runs.{ReadyForTurn, Falling, Taken, HasMoved}
 
 -- in some game a turn can be made
 abbrev pub SomeTurning : {L : Type 0} → Machine L → Type 0
@@ -26,21 +26,21 @@ EachTurning m IsSo = (shape : Shape) (code : Block) (U : Given) (G : Game) → C
 
 -- in some game nothing planned is due
 abbrev pub SomeCalm : {L : Type 0} → Shape → Machine L → Type 0
-SomeCalm shape m = (code : Block) × (U : Given) × (G : Game) × Calm shape code U m G
+SomeCalm shape m = (code : Block) × (U : Given) × (G : Game) × ReadyForTurn shape code U m G
 
 -- so it is in each game in which nothing planned is due
 abbrev pub EachCalm : {L : Type 0} → Shape → Machine L → (Block → Given → Game → Type 0) → Type 0
-EachCalm shape m IsSo = (code : Block) (U : Given) (G : Game) → Calm shape code U m G → IsSo code U G
+EachCalm shape m IsSo = (code : Block) (U : Given) (G : Game) → ReadyForTurn shape code U m G → IsSo code U G
 
 -- in some game the death or join is due, and it is told which tasks are enabled
 abbrev pub SomeDue : {L : Type 0} → Machine L → Entry → Type 0
 SomeDue m e =
-    (shape : Shape) × (code : Block) × (U : Given) × (G : Game) × Falling shape code U m e G × IsReady (tree_in U G) m.ready.members
+    (shape : Shape) × (code : Block) × (U : Given) × (G : Game) × Falling shape code U m e G × AreEnabled (tree_in U G) m.ready.members
 
 -- so it is, whatever the pick, in each game in which it is due and this is told
 abbrev pub EachDue : {L : Type 0} → Machine L → Entry → (Shape → Block → Given → ℕ → Game → Type 0) → Type 0
 EachDue m e IsSo =
-    (shape : Shape) (code : Block) (U : Given) (k : ℕ) (G : Game) → Falling shape code U m e G → IsReady (tree_in U G) m.ready.members
+    (shape : Shape) (code : Block) (U : Given) (k : ℕ) (G : Game) → Falling shape code U m e G → AreEnabled (tree_in U G) m.ready.members
     → IsSo shape code U k G
 
 -- in some game the pick moves the task of slot i
@@ -102,4 +102,4 @@ SomeMoved m i under before =
 abbrev pub EachNoted : {L : Type 0} → Machine L → Machine L → ℕ → ScopeId → ℕ → Type 0
 EachNoted m m' i under before =
     (shape : Shape) (code : Block) (U : Given) (k : ℕ) (G H : Game) → HasMoved shape code U m k i under before G H
-    → IsReady (tree_in U H) m'.ready.members
+    → AreEnabled (tree_in U H) m'.ready.members

@@ -14,24 +14,24 @@ use Rattle.rx_machine.specs.declared.seat.Mover.{Mover}
 use Rattle.rx_machine.specs.Holds.{Acting}
 
 -- the next step is a request to the ledger, or the end
-abbrev pub IsAsked : Does → Type 0
-IsAsked (Local left vars) = ⊥
-IsAsked (Makes name words) = ⊥
-IsAsked (Gets name target index) = ⊥
-IsAsked (Puts target index value) = ⊥
-IsAsked (Forgets target) = ⊥
-IsAsked Opens = Unit {0}
-IsAsked (Calls place) = Unit {0}
-IsAsked (Spawns place) = Unit {0}
-IsAsked (Waits faults) = Unit {0}
-IsAsked Releases = Unit {0}
-IsAsked (Prints value) = Unit {0}
-IsAsked (Counts name) = Unit {0}
-IsAsked (Done faults) = Unit {0}
+abbrev pub AsksOrEnds : Does → Type 0
+AsksOrEnds (Local left vars) = ⊥
+AsksOrEnds (Makes name words) = ⊥
+AsksOrEnds (Gets name target index) = ⊥
+AsksOrEnds (Puts target index value) = ⊥
+AsksOrEnds (Forgets target) = ⊥
+AsksOrEnds Opens = Unit {0}
+AsksOrEnds (Calls place) = Unit {0}
+AsksOrEnds (Spawns place) = Unit {0}
+AsksOrEnds (Waits faults) = Unit {0}
+AsksOrEnds Releases = Unit {0}
+AsksOrEnds (Prints value) = Unit {0}
+AsksOrEnds (Counts name) = Unit {0}
+AsksOrEnds (Done faults) = Unit {0}
 
 -- what was told is the next step, which is a request or the end
 abbrev pub IsRequest : Next → Does → Type 0
-IsRequest next d = (next ≡ next_of d) × IsAsked d
+IsRequest next d = (next ≡ next_of d) × AsksOrEnds d
 
 -- nothing is changed but the stores
 pub record OnlyStores {L : Type 0} (m m' : Machine L) : Type 0 where

@@ -5,8 +5,8 @@ use Rattle.rx_rules.specs.Code.{Block, Nothing, Then}
 use Rattle.rx_rules.specs.Order.{is_kept_in}
 use Rattle.rx_syntax.specs.Shape.{Shape, BlockStands}
 use Rattle.rx_order.specs.Marks.{marks_in}
-use Rattle.rx_order.specs.declared.marks.Mark.{Mark}
-use Rattle.rx_order.specs.declared.marks.Mark.TheVariants.{Follows, Branches}
+use Rattle.rx_order.specs.declared.marks.Role.{Role}
+use Rattle.rx_order.specs.declared.marks.Role.TheVariants.{Follows, Branches}
 use Rattle.rx_order.specs.declared.parts.Part.{Part}
 use Rattle.rx_order.specs.declared.parts.Walk.{Walk}
 use Rattle.rx_order.specs.declared.parts.Walk.TheVariants.{Over, On}
@@ -65,14 +65,14 @@ is_ordered (If test first other) = false
 is_ordered t = true
 
 -- what the number of a part stands for, where one tells it
-abbrev pub part_mark : Stmt → ℕ → Option Mark
+abbrev pub part_mark : Stmt → ℕ → Option Role
 part_mark (If test first other) n = Some Branches
 part_mark (Repeat times body) n = Some Follows
 part_mark (Try body dead_only handler) n = cond (n == 0) (Some Follows) (Some Branches)
 part_mark t n = None
 
 -- the marks along x, read from its position in the block on
-abbrev pub marks_along : Block → List ℕ → List Mark
+abbrev pub marks_along : Block → List ℕ → List Role
 marks_along body [] = []
 marks_along body (i ∷ x) = marks_in body i x
 

@@ -18,13 +18,13 @@ state_of (stages.Logging history journals journal) = Logging (given history.setu
 state_of (stages.Over history journals) = Over (given history.setup) history.entries (events_of journals)
 
 -- there are at most 16 places in all, and not more journals
-abbrev pub IsReady : Stage → Type 0
-IsReady stages.Untitled = Unit {0}
-IsReady stages.Titled = Unit {0}
-IsReady (stages.Sized places heap) = places ≤ 16
-IsReady (stages.Listed places heap kills) = places ≤ 16
-IsReady (stages.Planned setup) = in_all (given setup) ≤ 16
-IsReady (stages.Entering history) = in_all (given history.setup) ≤ 16
-IsReady (stages.Logging history journals journal) =
+abbrev pub PlacesFit : Stage → Type 0
+PlacesFit stages.Untitled = Unit {0}
+PlacesFit stages.Titled = Unit {0}
+PlacesFit (stages.Sized places heap) = places ≤ 16
+PlacesFit (stages.Listed places heap kills) = places ≤ 16
+PlacesFit (stages.Planned setup) = in_all (given setup) ≤ 16
+PlacesFit (stages.Entering history) = in_all (given history.setup) ≤ 16
+PlacesFit (stages.Logging history journals journal) =
     (in_all (given history.setup) ≤ 16) × (length journals.journals < in_all (given history.setup))
-IsReady (stages.Over history journals) = Unit {0}
+PlacesFit (stages.Over history journals) = Unit {0}

@@ -1,8 +1,8 @@
 -- What a kept chain stands for, and what the rows of a path tell.
 use Rattle.std.specs.Prelude.{◌≡◌, ◌⊎◌, ℕ, suc, ◌+◌, ◌<◌, Bool, true, false, cond, nat_lt, List, [], ◌∷◌, ◌++◌, length, take}
 use Rattle.std.specs.Prelude.{replicate, Some, slice_get}
-use Rattle.rx_order.specs.declared.marks.Mark.{Mark}
-use Rattle.rx_order.specs.declared.marks.Mark.TheVariants.{Starts, Waits, Follows, Branches}
+use Rattle.rx_order.specs.declared.marks.Role.{Role}
+use Rattle.rx_order.specs.declared.marks.Role.TheVariants.{Starts, Waits, Follows, Branches}
 use Rattle.rx_span.specs.declared.chains.Kept.{Kept}
 
 -- the empty chain
@@ -14,7 +14,7 @@ abbrev pub better_kept : Kept → Kept → Kept
 better_kept inner outer = cond (nat_lt inner.length outer.length) outer inner
 
 -- each `async` of these numbers has a `finish` before it
-abbrev pub kept_from : List Mark → Bool
+abbrev pub kept_from : List Role → Bool
 kept_from [] = true
 kept_from (Starts ∷ ms) = false
 kept_from (Waits ∷ ms) = true
@@ -22,7 +22,7 @@ kept_from (Follows ∷ ms) = kept_from ms
 kept_from (Branches ∷ ms) = kept_from ms
 
 -- what has a greater number in the place of the first of these follows
-abbrev pub leads : List Mark → Bool
+abbrev pub leads : List Role → Bool
 leads [] = false
 leads (Starts ∷ ms) = false
 leads (Waits ∷ ms) = true
@@ -30,7 +30,7 @@ leads (Follows ∷ ms) = kept_from ms
 leads (Branches ∷ ms) = false
 
 -- the best chain of the rows whose number leads
-abbrev pub follow : List Mark → List Kept → Kept
+abbrev pub follow : List Role → List Kept → Kept
 follow [] rows = none
 follow (m ∷ ms) [] = none
 follow (m ∷ ms) (r ∷ rs) = cond (leads (m ∷ ms)) (better_kept (follow ms rs) r) (follow ms rs)
@@ -47,14 +47,14 @@ IsLaid from passed len old new inside =
     ⊎ ((k : ℕ) × (from + suc k ≡ len) × (new ≡ take from old ++ passed ∷ replicate k none) × (inside ≡ none))
 
 -- c is the chain of statement number h; the chains are those of the statements passed, the last passed first
-abbrev pub Stands : List (List (List ℕ)) → ℕ → List (List ℕ) → Type 0
-Stands [] h c = ⊥
-Stands (d ∷ ds) h c = ((h ≡ length ds) × (c ≡ d)) ⊎ Stands ds h c
+abbrev pub IsChainOf : List (List (List ℕ)) → ℕ → List (List ℕ) → Type 0
+IsChainOf [] h c = ⊥
+IsChainOf (d ∷ ds) h c = ((h ≡ length ds) × (c ≡ d)) ⊎ IsChainOf ds h c
 
 -- the kept chain is c
 pub record IsKept (cs : List (List (List ℕ))) (k : Kept) (c : List (List ℕ)) : Type 0 where
   pub len : k.length ≡ length c
-  pub at : 0 < length c → Stands cs k.head c
+  pub at : 0 < length c → IsChainOf cs k.head c
 
 -- each chain is its statement and then the rest, which is kept beside the statement
 abbrev pub Linked : List (List (List ℕ)) → List (List ℕ) → List Kept → Type 0

@@ -13,7 +13,7 @@ use Rattle.rx_verify.specs.Inside.Deciding.{Decides}
 use Rattle.rx_verify.specs.Inside.Admits.{Admits, AuditIs}
 
 -- an audit in which the root stands, and numbers suffice
-pub record Goes {L : Type 0} (stands : L → ℕ → Tree → Type 0) (a : Audit L) : Type 0 where
+pub record CanContinue {L : Type 0} (stands : L → ℕ → Tree → Type 0) (a : Audit L) : Type 0 where
   pub setup : Given
   pub entries : List Entry
   pub is : AuditIs stands setup entries a
@@ -21,8 +21,8 @@ pub record Goes {L : Type 0} (stands : L → ℕ → Tree → Type 0) (a : Audit
   pub unended : a.ended ≡ false
 
 -- in whose ledger the caller may ask for the act
-pub record Asks {L : Type 0} (stands : L → ℕ → Tree → Type 0) (a : Audit L) (who : Caller) (act : Act) : Type 0 where
-  pub goes : Goes stands a
+pub record CallerMayAsk {L : Type 0} (stands : L → ℕ → Tree → Type 0) (a : Audit L) (who : Caller) (act : Act) : Type 0 where
+  pub goes : CanContinue stands a
   pub may : MayAskAct (tree_of goes.setup.places goes.entries) who act
 
 -- the answer is whether the entry may follow; where it may, the audit stands after it

@@ -44,8 +44,8 @@ FitsRest t d (Print z x) = begins t ≡ Some x
 FitsRest t d (Census n x) = begins t ≡ Some x
 
 -- the act is of the kind that is asked
-abbrev pub IsAsked : PlaceId → Does → Act → Type 0
-IsAsked here d act = (want : Want) × (next_of d ≡ Book want) × (wanted want here act ≡ true)
+abbrev pub ActIsAsked : PlaceId → Does → Act → Type 0
+ActIsAsked here d act = (want : Want) × (next_of d ≡ Book want) × (wanted want here act ≡ true)
 
 -- a census tells from 1 to 16 places, and no fewer than the task knows
 abbrev pub CountsMore : ℕ → Act → Type 0

@@ -1,5 +1,5 @@
 use Rattle.std.proofs.Common.{◌≡◌, false, [], ap, rules}
-use Rattle.rx_ledger.specs.Kept.{Kept}
+use Rattle.rx_ledger.specs.Kept.{KeeperView}
 use Rattle.rx_ticket.specs.declared.tickets.AnyTicket.TheVariants.{Running, Host}
 use Rattle.tasks_by_hand.specs.declared.Job.{Job}
 use Rattle.tasks_by_hand.proofs.Turns.{opening_ready, queue_opens}
@@ -15,5 +15,5 @@ turns-init g c =
     let one = c.push_reserved.ensures.items in
     let two = c.push_reserved-2.ensures.items in
     let empty = c.in-Ok.ensures.empty in
-    opening_ready k c.in-Ok.ticket 4 0 js (ap (λ (x : Kept). x.setup.places) empty) (ap (λ (x : Kept). x.entries) empty) c.in-Ok.ensures.ticket
+    opening_ready k c.in-Ok.ticket 4 0 js (ap (λ (x : KeeperView). x.setup.places) empty) (ap (λ (x : KeeperView). x.entries) empty) c.in-Ok.ensures.ticket
     (queue_opens c.in_ok-jobs.jobs.items c.push_reserved.new.self.items js main host none one two)

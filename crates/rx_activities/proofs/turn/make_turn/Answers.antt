@@ -1,6 +1,6 @@
 use Rattle.std.proofs.Common.{sym, subst}
 use Rattle.rx_activities.specs.declared.hand.Hand.{Hand}
-use Rattle.rx_activities.specs.Knowing.{Knows}
+use Rattle.rx_activities.specs.Knowing.{ActivityInvariant}
 use Rattle.rx_activities.specs.Inside.Stepping.{IsNext}
 use Rattle.rx_activities.proofs.Kept.{of_named}
 use Rattle.rx_activities.proofs.turn.make_turn.Goals as goal
@@ -9,7 +9,7 @@ pub activity_of-requires : goal.activity_of-requires
 activity_of-requires g c =
     let L = g.L.LedgerBook.name c.args.ledger.now in
     of_named L _ _ c.requires.ledger
-    (c.in-Ok.ensures.known L c.requires.program (subst (λ (h : Hand). Knows L h) (sym c.deref_mut.ensures.value) c.requires.known))
+    (c.in-Ok.ensures.known L c.requires.program (subst (λ (h : Hand). ActivityInvariant L h) (sym c.deref_mut.ensures.value) c.requires.known))
 
 pub call_ledger-answer-requires-clause-next : goal.call_ledger-answer-requires-clause-next
 call_ledger-answer-requires-clause-next g c =

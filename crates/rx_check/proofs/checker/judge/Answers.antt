@@ -5,7 +5,7 @@ use Rattle.rx_syntax.specs.Shape.{BlockStands}
 use Rattle.rx_syntax.specs.declared.nodes.BlockId.{BlockId}
 use Rattle.rx_syntax.specs.declared.nodes.NameId.{NameId}
 use Rattle.rx_check.specs.Rules.{nodes}
-use Rattle.rx_check.specs.Inside.Walk.{is_in, sights_run, seen_all, Knows}
+use Rattle.rx_check.specs.Inside.Walk.{is_in, sights_run, seen_all, KnowsNames}
 use Rattle.rx_check.specs.declared.checker.CheckCause.{CheckCause}
 use Rattle.rx_check.specs.declared.checker.CheckCause.TheVariants.{Bad}
 use Rattle.rx_check.specs.declared.names.Seen.{Seen}
@@ -18,7 +18,7 @@ block-requires-clause-stands c =
     let P : BlockId → Type 0 = λ k. (t : Block) × BlockStands c.args.script.now k t in subst P (sym c.top.ensures) (c.whole.ensures.0, c.whole.ensures.1)
 
 -- nothing is known or assigned yet
-knows-none : (ns : List NameId) → ns ≡ [] → Knows ns []
+knows-none : (ns : List NameId) → ns ≡ [] → KnowsNames ns []
 knows-none ns e n = ap (is_in n) e
 
 pub returns-clause-ok : goal.returns-clause-ok

@@ -1,5 +1,5 @@
 use Rattle.std.proofs.Common.{rules, ◌≡◌, ◌++◌, ◌∷◌, [], List, Option, sym, subst}
-use Rattle.rx_store.specs.Kept.{Kept}
+use Rattle.rx_store.specs.Kept.{StoreView}
 use Rattle.rx_book.specs.declared.passes.Note.{Note}
 use Rattle.rx_book.specs.Passes.{view_of}
 use Rattle.rx_parts.specs.declared.items.EntryItem.{EntryItem}
@@ -9,7 +9,7 @@ use Rattle.rx_live.proofs.ending.close_places.Goals as goal
 
 pub place-init : goal.place-init
 place-init g c =
-    subst (λ (l : List Kept). ClosesFrom g.N.Naming.ledger c.args.stations.items c.args.seats.items c.args.host.now c.args.stations.items c.args.seats.items c.args.host.now l) (sym c.new-stores.ensures.items)
+    subst (λ (l : List StoreView). ClosesFrom g.N.Naming.ledger c.args.stations.items c.args.seats.items c.args.host.now c.args.stations.items c.args.seats.items c.args.host.now l) (sym c.new-stores.ensures.items)
     (none_closed g.N.Naming.ledger c.args.stations.items c.args.seats.items c.args.host.now c.requires.host c.requires.seats.1)
 
 pub close-store-requires : goal.close-store-requires
@@ -25,6 +25,6 @@ place-preserved g c =
     let passes : c.place.seats.items ≡ c.pop-in-Some.new.self.items ++ c.in-Some-pop.seat ∷ [] = search rules in
     let stores : c.insert.new.self.items ≡ c.close-store.result.0 ∷ c.place.stores.items = search rules in
     let closed = subst (λ (o : Option (Note EntryItem)). IsClosed g.N.Naming.ledger c.in-Some.station.place.0 (view_of c.in-Some-pop.seat).seen c.close-store.result.0 o) c.in-Some-note.is c.close-store.ensures in
-    subst (λ (l : List Kept). ClosesFrom g.N.Naming.ledger c.args.stations.items c.args.seats.items c.args.host.now c.pop.new.self.items c.pop-in-Some.new.self.items c.hear.new.host l) (sym stores)
+    subst (λ (l : List StoreView). ClosesFrom g.N.Naming.ledger c.args.stations.items c.args.seats.items c.args.host.now c.pop.new.self.items c.pop-in-Some.new.self.items c.hear.new.host l) (sym stores)
     (one_closed g.N.Naming.ledger c.args.stations.items c.args.seats.items c.args.host.now c.place.stations.items c.place.seats.items c.place.host c.place.stores.items c.place.invariant c.pop.new.self.items c.in-Some.station posts
     c.pop-in-Some.new.self.items c.in-Some-pop.seat passes c.requires.stations c.requires.seats.0 c.hear.new.host c.close-store.result.0 c.in-Some-note.note closed c.hear.ensures.host.0 c.hear.ensures.host.1 c.hear.ensures.heard)

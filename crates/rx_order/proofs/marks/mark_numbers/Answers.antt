@@ -2,7 +2,7 @@ use Rattle.std.proofs.Common.{◌≡◌, ◌∙◌, ℕ, ◌+◌, ◌≤◌, Lis
 use Rattle.std.proofs.lemmas.List.{drop_all}
 use Rattle.rx_rules.proofs.Common.{Stmt as Tree, Block}
 use Rattle.rx_syntax.specs.Shape.{Shape, Stands, StmtIs, BlockStands}
-use Rattle.rx_order.specs.declared.marks.Mark.{Mark}
+use Rattle.rx_order.specs.declared.marks.Role.{Role}
 use Rattle.rx_order.specs.Marks.{mark_of, marks, marks_of}
 use Rattle.rx_order.specs.Inside.Parts.{item_of, numbers_of, part_in, part_mark, marks_along, IsPart}
 use Rattle.rx_order.proofs.Marking.{marks-at, marks-none, marks-some, marks-out, marks-on, Marked}
@@ -22,7 +22,7 @@ returns-in_default c t h =
     sym (v.2 ∙ ap (λ l. c.loop-at.marks.items ++ l) none ∙ append-nil c.loop-at.marks.items)
 
 -- after the mark of a position come those inside its statement
-after-push : (done pushed : List Mark) (m : Mark) (more : List Mark) → pushed ≡ done ++ m ∷ [] → done ++ m ∷ more ≡ pushed ++ more
+after-push : (done pushed : List Role) (m : Role) (more : List Role) → pushed ≡ done ++ m ∷ [] → done ++ m ∷ more ≡ pushed ++ more
 after-push done pushed m more e = sym (append_assoc done (m ∷ []) more) ∙ ap (λ l. l ++ more) (sym e)
 
 pub returns-in_default-part_of : goal.returns-in_default-part_of
@@ -48,7 +48,7 @@ loop-at-smaller c =
     let e : c.in-Some-part_of.part.at ≡ c.loop-at.at + 1 + numbers_of k.0 = (marks-on s x (c.loop-at.at + 1 + numbers_of k.0) k.0 (drop (c.loop-at.at + 1) x) c.in-Some-part_of.part on).at in
     omega (arith, c.loop-at-test.true)
 
-one : (done : List Mark) (m n : Mark) (items rest all : List Mark) → items ≡ (done ++ m ∷ []) ++ n ∷ [] → all ≡ m ∷ (n ∷ rest) → done ++ all ≡ items ++ rest
+one : (done : List Role) (m n : Role) (items rest all : List Role) → items ≡ (done ++ m ∷ []) ++ n ∷ [] → all ≡ m ∷ (n ∷ rest) → done ++ all ≡ items ++ rest
 one done m n items rest all e f =
     ap (λ l. done ++ l) f ∙ sym (append_assoc done (m ∷ []) (n ∷ rest)) ∙ sym (append_assoc (done ++ m ∷ []) (n ∷ []) rest) ∙ ap (λ l. l ++ rest) (sym e)
 
@@ -60,7 +60,7 @@ loop-at-preserved c t h =
     let k : (u : Tree) × StmtIs s c.in-Some.stmt u × (item_of v.0 c.number_at.result ≡ Some u) = rw c.in-Some.is at c.stmt_at.ensures v.0 v.1 in
     let on : IsPart s x (c.loop-at.at + 1 + numbers_of k.0) (Some c.in-Some-part_of.part) (part_in k.0 (drop (c.loop-at.at + 1) x)) = rw c.in-Some-part_of.is at c.part_of.ensures s k.0 k.1 in
     let g : Marked s x (c.loop-at.at + 1 + numbers_of k.0) c.in-Some-part_of.part k.0 (drop (c.loop-at.at + 1) x) = marks-on s x (c.loop-at.at + 1 + numbers_of k.0) k.0 (drop (c.loop-at.at + 1) x) c.in-Some-part_of.part on in
-    let rest : List Mark = marks_along g.block (drop c.in-Some-part_of.part.at x) in
+    let rest : List Role = marks_along g.block (drop c.in-Some-part_of.part.at x) in
     let along : marks_along v.0 (drop c.loop-at.at x) ≡ mark_of k.0 ∷ (option_to_list (part_mark k.0 c.in-Some-part_of.part.number) ++ rest) = marks-at v.0 x c.loop-at.at c.number_at.result c.number_at.ensures ∙ marks-some v.0 c.number_at.result (drop (c.loop-at.at + 1) x) k.0 k.2 ∙ ap (λ l. mark_of k.0 ∷ l) g.same in
     let m : c.position_mark.result ≡ mark_of k.0 = c.position_mark.ensures s k.0 k.1 in
     let p : c.part_mark.result ≡ part_mark k.0 c.in-Some-part_of.part.number = c.part_mark.ensures s k.0 k.1 in

@@ -1,7 +1,7 @@
 use Rattle.std.proofs.Common.{◌≡◌, ◌∙◌, ℕ, suc, ◌-◌, ◌<◌, ◌≤◌, max, Bool, true, false, cond, List, ◌∷◌, length, drop, get_or, ap, sym, arith, drop-cons}
 use Rattle.std.proofs.lemmas.Bool.{cond-true, cond-false}
-use Rattle.rx_order.specs.declared.marks.Mark.{Mark}
-use Rattle.rx_order.specs.declared.marks.Mark.TheVariants.{Starts}
+use Rattle.rx_order.specs.declared.marks.Role.{Role}
+use Rattle.rx_order.specs.declared.marks.Role.TheVariants.{Starts}
 use Rattle.rx_span.specs.declared.chains.Kept.{Kept}
 use Rattle.rx_span.specs.Inside.Kept.{better_kept, kept_from, leads, follow, past}
 use Rattle.rx_span.proofs.chains.look.Goals as goal
@@ -11,8 +11,8 @@ use Rattle.rx_span.proofs.chains.look.Goals.{then-leads, else-leads}
 further : {X : Type 0} (xs : List X) (m n : ℕ) (d : X) → n ≡ suc m → m < length xs → drop m xs ≡ get_or xs m d ∷ drop n xs
 further xs m n d e l = drop-cons xs m d l ∙ ap (λ k. get_or xs m d ∷ drop k xs) (sym e)
 
-module _ (ms : List Mark) (rows : List Kept) (m n : ℕ) (e : n ≡ suc m) (l : m < length rows) (same : length rows ≡ length ms) where
-  abbrev mark : Mark
+module _ (ms : List Role) (rows : List Kept) (m n : ℕ) (e : n ≡ suc m) (l : m < length rows) (same : length rows ≡ length ms) where
+  abbrev mark : Role
   mark = get_or ms m Starts
 
   abbrev row : Kept
@@ -24,11 +24,11 @@ module _ (ms : List Mark) (rows : List Kept) (m n : ℕ) (e : n ≡ suc m) (l : 
   follow-further : follow (drop m ms) (drop m rows) ≡ cond (leads (mark ∷ drop n ms)) (better_kept (follow (drop n ms) (drop n rows)) row) (follow (drop n ms) (drop n rows))
   follow-further = ap (λ u. follow u (drop m rows)) marks-further ∙ ap (follow (mark ∷ drop n ms)) (further rows m n (record { length = 0; head = 0 }) e l)
 
-  follow-yes : (b : Bool) → b ≡ true → (kept : Bool) → ((us : List Mark) → kept ≡ kept_from us → b ≡ leads (mark ∷ us)) → kept ≡ kept_from (drop n ms) → (k : Kept) → k ≡ follow (drop n ms) (drop n rows) → better_kept k row ≡ follow (drop m ms) (drop m rows)
+  follow-yes : (b : Bool) → b ≡ true → (kept : Bool) → ((us : List Role) → kept ≡ kept_from us → b ≡ leads (mark ∷ us)) → kept ≡ kept_from (drop n ms) → (k : Kept) → k ≡ follow (drop n ms) (drop n rows) → better_kept k row ≡ follow (drop m ms) (drop m rows)
   follow-yes b t kept f h k q =
       ap (λ u. better_kept u row) q ∙ sym (follow-further ∙ cond-true (leads (mark ∷ drop n ms)) (better_kept (follow (drop n ms) (drop n rows)) row) (follow (drop n ms) (drop n rows)) (sym (f (drop n ms) h) ∙ t))
 
-  follow-no : (b : Bool) → b ≡ false → (kept : Bool) → ((us : List Mark) → kept ≡ kept_from us → b ≡ leads (mark ∷ us)) → kept ≡ kept_from (drop n ms) → (k : Kept) → k ≡ follow (drop n ms) (drop n rows) → k ≡ follow (drop m ms) (drop m rows)
+  follow-no : (b : Bool) → b ≡ false → (kept : Bool) → ((us : List Role) → kept ≡ kept_from us → b ≡ leads (mark ∷ us)) → kept ≡ kept_from (drop n ms) → (k : Kept) → k ≡ follow (drop n ms) (drop n rows) → k ≡ follow (drop m ms) (drop m rows)
   follow-no b t kept f h k q =
       q ∙ sym (follow-further ∙ cond-false (leads (mark ∷ drop n ms)) (better_kept (follow (drop n ms) (drop n rows)) row) (follow (drop n ms) (drop n rows)) (sym (f (drop n ms) h) ∙ t))
 

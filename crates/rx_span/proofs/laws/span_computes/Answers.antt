@@ -2,7 +2,7 @@ use Rattle.std.proofs.Common.{◌≡◌, ℕ, Bool, true, ◌&&◌, List, [], �
 use Rattle.std.specs.List.{list_all}
 use Rattle.std.proofs.lemmas.Bool.{and_parts}
 use Rattle.rx_rules.proofs.Common.{orphan_script, at_waits, told}
-use Rattle.rx_span.specs.Paths.{Comes}
+use Rattle.rx_span.specs.Paths.{ComesBefore}
 use Rattle.rx_span.specs.Inside.Sorting.{comes}
 use Rattle.rx_span.specs.Examples.{script, statements}
 use Rattle.rx_span.proofs.Sharing.{comes-true}
@@ -15,7 +15,7 @@ abbrev ascends : List (List ℕ) → Bool
 ascends [] = true
 ascends (x ∷ xs) = list_all (comes x) xs && ascends xs
 
-all-true : (x : List ℕ) (xs : List (List ℕ)) → list_all (comes x) xs ≡ true → All (Comes x) xs
+all-true : (x : List ℕ) (xs : List (List ℕ)) → list_all (comes x) xs ≡ true → All (ComesBefore x) xs
 all-true x [] h = tt
 all-true x (y ∷ ys) h = let p = and_parts (comes x y) (list_all (comes x) ys) h in (comes-true x y p.0, all-true x ys p.1)
 

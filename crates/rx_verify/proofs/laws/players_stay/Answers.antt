@@ -1,4 +1,4 @@
-use Rattle.rx_sound.proofs.Histories.{fold_reached}
+use Rattle.rx_tree_laws.proofs.Histories.{fold_reached}
 use Rattle.rx_verdict.proofs.Seating.{seats_stay}
 use Rattle.rx_verify.proofs.AdmitPlayers.{quiet_after}
 use Rattle.rx_verify.proofs.laws.players_stay.Goals as goal

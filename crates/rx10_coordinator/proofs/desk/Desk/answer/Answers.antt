@@ -1,5 +1,5 @@
 use Rattle.std.proofs.Common.{◌∙◌, true, refl, sym, codes}
-use Rattle.rx_lines.specs.Session.Answered.{malformed, unread}
+use Rattle.rx_lines.specs.Session.LineAnswered.{malformed, unread}
 use Rattle.rx10_coordinator.proofs.desk.Desk.answer.Goals as goal
 
 pub returns-in-Ok-Some : goal.returns-in-Ok-Some

@@ -1,7 +1,7 @@
 use Rattle.std.proofs.Common.{◌++◌, true, refl, codes}
 use Rattle.rx_lines.specs.Replies.{answer_line}
 use Rattle.rx_lines.specs.Session.{freed_lines}
-use Rattle.rx_lines.specs.Session.Answered.{unread, replied}
+use Rattle.rx_lines.specs.Session.LineAnswered.{unread, replied}
 use Rattle.rx10_coordinator.proofs.Logging.{or-map, inr-map}
 use Rattle.rx10_coordinator.proofs.desk.Desk.ask.Goals as goal
 

@@ -9,7 +9,7 @@ use Rattle.rx_objects.specs.declared.ledger.LedgerOp.{LedgerOp}
 use Rattle.rx_ticket.specs.declared.tickets.AnyTicket.TheVariants.{Moving, Running}
 use Rattle.rx_activities.specs.declared.hand.Journey.{Journey}
 use Rattle.rx_activities.specs.Knowing.{IsNewSeat}
-use Rattle.rx_activities.specs.Starting.{Comes}
+use Rattle.rx_activities.specs.Starting.{TravellerInvariant}
 use Rattle.rx_activities.specs.Inside.Births.{IsWith}
 use Rattle.rx_activities.proofs.Kept.{of_named}
 use Rattle.rx_activities.proofs.Landed.{arrival_asks, landed_knows}
@@ -23,7 +23,7 @@ ask-requires-clause-asks g c =
       note = None;
       mentions = record { before = c.of.result; now = c.of-2.result; child = c.of-3.result; seat = c.of-4.result };
     } in
-    let comes = subst (λ (M : BookName LedgerFixed). Comes M c.self.inside.journey) (sym c.requires.ledger) c.self.invariant in
+    let comes = subst (λ (M : BookName LedgerFixed). TravellerInvariant M c.self.inside.journey) (sym c.requires.ledger) c.self.invariant in
     λ code stands.
     arrival_asks (g.L.LedgerBook.name c.args.ledger.now) j op (λ i. record { ticket = Moving c.self.inside.journey.ticket; ask = Arrive; batch = c.open.ensures i; path = None }) (c.of.ensures ∙ sym c.of-2.ensures) refl code
     (comes.stands code (subst (λ (q : Checked). Stands q.script code) (sym c.requires.program) stands))
@@ -36,7 +36,7 @@ activity_with-requires g c =
       note = None;
       mentions = record { before = c.of.result; now = c.of-2.result; child = c.of-3.result; seat = c.of-4.result };
     } in
-    let comes = subst (λ (M : BookName LedgerFixed). Comes M c.self.inside.journey) (sym c.requires.ledger) c.self.invariant in
+    let comes = subst (λ (M : BookName LedgerFixed). TravellerInvariant M c.self.inside.journey) (sym c.requires.ledger) c.self.invariant in
     let new = subst (λ (q : PlaceId). IsNewSeat (g.L.LedgerBook.name c.args.ledger.now) q c.args.seat) (sym c.self.view_is) (subst (λ (M : BookName LedgerFixed). IsNewSeat M c.args.self c.args.seat) (sym c.requires.ledger) c.requires.seat) in
     of_named (g.L.LedgerBook.name c.args.ledger.now) _ _ c.requires.ledger
     (landed_knows (g.L.LedgerBook.name c.args.ledger.now) j comes c.args.seat new op

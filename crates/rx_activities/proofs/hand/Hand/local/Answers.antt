@@ -3,7 +3,7 @@ use Rattle.std.proofs.lemmas.Result.{on_ok_weaker}
 use Rattle.std.specs.Global.{Box}
 use Rattle.rx_rules.proofs.Common.{Term, does, begun}
 use Rattle.rx_control.specs.declared.control.Control.{Control}
-use Rattle.rx_control.specs.Stands.{StandsFor, Leaves}
+use Rattle.rx_control.specs.Stands.{StandsFor, AfterLocalStep}
 use Rattle.rx_activities.specs.declared.hand.Hand.{Hand}
 use Rattle.rx_activities.proofs.Walking.{stepped, steps_only, stays_known, has_term}
 use Rattle.rx_activities.proofs.hand.Hand.local.Goals as goal
@@ -21,5 +21,5 @@ returns-clause-known c =
     let b : Hand = stepped a control c.local_step.new.batch in
     on_ok_weaker c.local_step.result
     (λ made. stays_known c.args.p.now a b (steps_only a control c.local_step.new.batch) c.requires.local
-    (subst (λ (x : Control). (t : Term) → StandsFor c.args.p.now.script x t → Leaves c.args.p.now.script c.local_step.new.control (does x.vars a.place.0 t) × (c.local_step.new.batch ≡ begun t a.batch)) c.as_mut.ensures.value made))
+    (subst (λ (x : Control). (t : Term) → StandsFor c.args.p.now.script x t → AfterLocalStep c.args.p.now.script c.local_step.new.control (does x.vars a.place.0 t) × (c.local_step.new.batch ≡ begun t a.batch)) c.as_mut.ensures.value made))
     c.local_step.ensures

@@ -4,7 +4,7 @@ use Rattle.std.proofs.lemmas.Result.{err_from_is_err_and}
 use Rattle.rx_rules.proofs.Common.{work}
 use Rattle.rx_syntax.specs.declared.nodes.NameId.{NameId}
 use Rattle.rx_check.specs.Rules.{Kind, Sight, assigned, inside, learned, sights}
-use Rattle.rx_check.specs.Inside.Walk.{Sofar, cap, known_with, noted, sights_run, rule_with, seen_all, seen_as, sofar_of, work_with, Knows}
+use Rattle.rx_check.specs.Inside.Walk.{Sofar, cap, known_with, noted, sights_run, rule_with, seen_all, seen_as, sofar_of, work_with, KnowsNames}
 use Rattle.rx_check.specs.declared.parts.Bodies.{Bodies}
 use Rattle.rx_check.specs.declared.parts.Parts.{Parts}
 use Rattle.rx_check.proofs.Blocks.{BodiesAre, bodies-are}
@@ -170,7 +170,7 @@ statement-returns-clause-ok t c u known k b =
     let k2 = knows-same c.note.new.self.known.items w.known.items known same k in
     let f = c.in_ok-work.ensures.ok u known k2 b in
     let k3 = knows-same c.inside.new.self.known.items c.note.new.self.known.items known c.in_ok-work.ensures.kept k2 in
-    let N : Option (ℕ × Kind) → Type 0 = λ o. Knows (known_with c.split-2.result.assigned c.inside.new.self.known.items) (learned o known) in
+    let N : Option (ℕ × Kind) → Type 0 = λ o. KnowsNames (known_with c.split-2.result.assigned c.inside.new.self.known.items) (learned o known) in
     let k4 = subst N a2 (knows-more c.split-2.result.assigned c.inside.new.self.known.items known k3) in (
       stepped-none (rule_with (seen_all w.seen.items) x) (assigned u) st F r ∙ (ap F (sym n) ∙ f.0),
       knows-same c.add_known.new.known.items (known_with c.split-2.result.assigned c.inside.new.self.known.items) (learned (assigned u) known) c.in_ok-add_known.ensures.known k4,

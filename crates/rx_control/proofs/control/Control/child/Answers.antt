@@ -5,7 +5,7 @@ use Rattle.rx_syntax.specs.Shape.{Shape}
 use Rattle.rx_control.specs.declared.frame.Frame.TheVariants.{Seq}
 use Rattle.rx_control.specs.declared.control.Control.{Control}
 use Rattle.rx_control.specs.Stands.{StandsFor, path_of}
-use Rattle.rx_control.specs.Inside.Front.{Awaits}
+use Rattle.rx_control.specs.Inside.Front.{PositionStands}
 use Rattle.rx_control.proofs.Births.{child-statement}
 use Rattle.rx_control.proofs.Standing.{at-statement}
 use Rattle.rx_control.proofs.Words.{ok-then}
@@ -25,7 +25,7 @@ returns-clause-stands c =
     let s = c.script-script.result.now in
     let e = c.in-Some.ensures in
     let path = c.in_ok-path-in-Some.path in
-    let P : Control → Type 0 = λ d. (stmt : Stmt) (more : Block) → Awaits s c.in-Some.block c.in-Some.next stmt more → StandsFor s d (stmt_child stmt path) × (d.vars ≡ c.args.self.now.vars) in
+    let P : Control → Type 0 = λ d. (stmt : Stmt) (more : Block) → PositionStands s c.in-Some.block c.in-Some.next stmt more → StandsFor s d (stmt_child stmt path) × (d.vars ≡ c.args.self.now.vars) in
     let Q : Control → Type 0 = λ d. (t : Term) → StandsFor c.args.p.now.script c.args.self.now t → (x : List ℕ) → begins t ≡ Some x → StandsFor c.args.p.now.script d (child t) × (d.vars ≡ c.args.self.now.vars) in
     ok-then c.child_of.result P Q c.child_of.ensures
     (λ d h t k x b.

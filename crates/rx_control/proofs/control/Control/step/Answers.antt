@@ -4,7 +4,7 @@ use Rattle.rx_rules.proofs.Common.{Term, Releases, stmt_does, at, does}
 use Rattle.rx_control.specs.declared.frame.Frame.{Frame}
 use Rattle.rx_control.specs.Levels.{More, seq}
 use Rattle.rx_control.specs.declared.frame.Frame.TheVariants.{Seq, Turns, Try, Body, Held}
-use Rattle.rx_control.specs.Stands.{path_of, StandsFor, Leaves}
+use Rattle.rx_control.specs.Stands.{path_of, StandsFor, AfterLocalStep}
 use Rattle.rx_control.specs.Inside.Front.{lifted, Due}
 use Rattle.rx_history.specs.Next.{next_of}
 use Rattle.rx_control.proofs.Front.{next-lifted}
@@ -48,8 +48,8 @@ carry_out-requires-clause-due c =
 pub returns-in-Some-Seq-clause-ok : goal.returns-in-Some-Seq-clause-ok
 returns-in-Some-Seq-clause-ok c =
     let P : Type 0 = (t : Term) (below : List Frame) → (h : Due c.args.script.now c.args.self.now t below c.in-Some-Seq.block c.in-Some-Seq.next c.in-Some-Seq.part c.make_plan-plan.result)
-    → Leaves c.args.script.now c.carry_out.new.self (lifted h.front.others h.act) in
-    let Q : Type 0 = (t : Term) → StandsFor c.args.script.now c.args.self.now t → Leaves c.args.script.now c.carry_out.new.self (does c.args.self.now.vars c.args.here.0 t) in
+    → AfterLocalStep c.args.script.now c.carry_out.new.self (lifted h.front.others h.act) in
+    let Q : Type 0 = (t : Term) → StandsFor c.args.script.now c.args.self.now t → AfterLocalStep c.args.script.now c.carry_out.new.self (does c.args.self.now.vars c.args.here.0 t) in
     on-ok-then c.carry_out.result P Q c.carry_out.ensures.done (λ done t h.
     let e = rw c.in-Some-Seq.field-0-is at c.in-Some-Seq.ensures in
     let b = at-top c.args.script.now c.args.self.now t e.0 (Seq c.in-Some-Seq.block c.in-Some-Seq.next c.in-Some-Seq.part) e.1 h in

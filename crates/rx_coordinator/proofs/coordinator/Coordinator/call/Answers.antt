@@ -16,8 +16,8 @@ use Rattle.rx_coordinator.proofs.Newcomers.{child_call}
 use Rattle.rx_coordinator.proofs.coordinator.Coordinator.call.Goals as goal
 use Rattle.rx_coordinator.specs.Seats.{seat_at, row_of, new_seat}
 use Rattle.rx_coordinator.specs.declared.seats.Seat.{Seat}
-use Rattle.rx_sound.proofs.Reached.{sound}
-use Rattle.rx_sound.proofs.Reach.{task_below}
+use Rattle.rx_tree_laws.proofs.Reached.{sound}
+use Rattle.rx_tree_laws.proofs.Reach.{task_below}
 
 pub returns-then-not-has_place : goal.returns-then-not-has_place
 returns-then-not-has_place c = λ p es st. (no_call (tree_of p es) c.args.task c.args.to (λ low. true≢false (sym ((c.has_place.ensures p es st).1 low) ∙ c.if-not-has_place.true)), st)

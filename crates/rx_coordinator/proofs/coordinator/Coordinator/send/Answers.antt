@@ -5,7 +5,7 @@ use Rattle.rx_finish.specs.declared.ledger.Born.{Born}
 use Rattle.rx_coordinator.specs.declared.requests.Request.TheVariants.{Spawn, Send}
 use Rattle.rx_coordinator.specs.declared.requests.Answer.{Answer}
 use Rattle.rx_coordinator.specs.declared.requests.Answer.TheVariants.{Bad, Full, NoMemory, NotYet, Spawned}
-use Rattle.rx_coordinator.specs.Stands.{Asked, IsUsedUp}
+use Rattle.rx_coordinator.specs.Stands.{IsReplyTo, IsUsedUp}
 use Rattle.rx_coordinator.proofs.coordinator.Coordinator.send.Goals as goal
 
 pub land_child-requires-clause-stands : goal.land_child-requires-clause-stands
@@ -25,7 +25,7 @@ land_child-requires-clause-room c =
     omega (arith, long, count, was, low)
 
 -- a spawn has no other answers
-others : (p : ℕ) (es : List Entry) (t : TaskId) (to : PlaceId) (a : Answer) (S : List Entry → Type 0) → (a ≡ Bad → ⊥) → (a ≡ Full → ⊥) → (a ≡ NoMemory → ⊥) → ((b : Born) → a ≡ Spawned b → ⊥) → Asked p es (Spawn t to) a S → ⊥
+others : (p : ℕ) (es : List Entry) (t : TaskId) (to : PlaceId) (a : Answer) (S : List Entry → Type 0) → (a ≡ Bad → ⊥) → (a ≡ Full → ⊥) → (a ≡ NoMemory → ⊥) → ((b : Born) → a ≡ Spawned b → ⊥) → IsReplyTo p es (Spawn t to) a S → ⊥
 others p es t to Bad S bad full short spawned h = bad refl
 others p es t to Full S bad full short spawned h = full refl
 others p es t to NoMemory S bad full short spawned h = short refl

@@ -5,7 +5,7 @@ use Rattle.rx_coordinator.specs.declared.seats.Seat.{Seat}
 use Rattle.rx_coordinator.specs.declared.requests.Request.TheVariants.{Release}
 use Rattle.rx_coordinator.specs.declared.waiters.Waiter.TheVariants.{Task as TaskWaits}
 use Rattle.rx_coordinator.specs.declared.parking.Parking.{Parking}
-use Rattle.rx_coordinator.specs.Stands.{Asked}
+use Rattle.rx_coordinator.specs.Stands.{IsReplyTo}
 use Rattle.rx_coordinator.specs.Parking.{Parks}
 use Rattle.rx_coordinator.proofs.Acting.{held_seat}
 use Rattle.rx_coordinator.proofs.Moves.{none_held, not_parked, none_parked, release_told, parked_told, waits_told}
@@ -28,7 +28,7 @@ returns-in-NotYet c = λ p es k.
     let told = parked_told p es c.release.new.self ws c.args.self.now.due k.all (Release t) (TaskWaits t) w.who.inner c.in-NotYet.place c.park.new.self.waiters c.park.result refl a.0 a.1 a.2 both.0 both.1 c.park.ensures.parked in
     inr (
       (λ h. absurd (none_parked ws t apart h)),
-      subst (λ (l : Parking). Asked p es (Release t) c.park.result (Parks l p)) (sym c.park.ensures.same) told.0,
+      subst (λ (l : Parking). IsReplyTo p es (Release t) c.park.result (Parks l p)) (sym c.park.ensures.same) told.0,
       told.1,
     )
 

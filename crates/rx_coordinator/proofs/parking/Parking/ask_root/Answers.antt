@@ -4,7 +4,7 @@ use Rattle.rx_rules.proofs.Common.{the_root, tree_of}
 use Rattle.rx_coordinator.specs.declared.requests.Request.TheVariants.{Root}
 use Rattle.rx_coordinator.specs.declared.waiters.Waiter.TheVariants.{Root as Host}
 use Rattle.rx_coordinator.specs.declared.parking.Parking.{Parking}
-use Rattle.rx_coordinator.specs.Stands.{Asked}
+use Rattle.rx_coordinator.specs.Stands.{IsReplyTo}
 use Rattle.rx_coordinator.specs.Parking.{Parks}
 use Rattle.rx_coordinator.proofs.Moves.{no_host, root_release_told, parked_told}
 use Rattle.rx_coordinator.proofs.parking.Parking.ask_root.Goals as goal
@@ -17,7 +17,7 @@ returns-in-NotYet c = λ p es k.
     let told = parked_told p es c.release_root.new.self ws c.args.self.now.due k.all Root Host the_root c.in-NotYet.place c.park.new.self.waiters c.park.result refl a.0 a.1 a.2 refl (tt, a.1.busy) c.park.ensures.parked in
     inr (
       (λ h. absurd (out h)),
-      subst (λ (l : Parking). Asked p es Root c.park.result (Parks l p)) (sym c.park.ensures.same) told.0,
+      subst (λ (l : Parking). IsReplyTo p es Root c.park.result (Parks l p)) (sym c.park.ensures.same) told.0,
       told.1,
     )
 

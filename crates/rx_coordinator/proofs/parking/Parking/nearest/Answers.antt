@@ -4,9 +4,9 @@ use Rattle.rx_rules.proofs.Common.{ScopeId, the_root, on_chain, tree_of}
 use Rattle.rx_coordinator.specs.declared.waiters.Waiter.{Waiter}
 use Rattle.rx_coordinator.specs.Waiters.{waiter_at}
 use Rattle.std.specs.Option.{is_some}
-use Rattle.rx_sound.proofs.Reached.{sound}
-use Rattle.rx_sound.proofs.Releasing.{on_meets}
-use Rattle.rx_sound.proofs.Freeing.{walk_goes_up}
+use Rattle.rx_tree_laws.proofs.Reached.{sound}
+use Rattle.rx_tree_laws.proofs.Releasing.{on_meets}
+use Rattle.rx_tree_laws.proofs.Freeing.{walk_goes_up}
 use Rattle.rx_coordinator.specs.Inside.Rows.{parent_in, parent_or_root}
 use Rattle.rx_coordinator.specs.Parking.{scope_numbered}
 use Rattle.rx_coordinator.proofs.Waiting.{low_chain, step_up}

@@ -2,7 +2,7 @@ use Rattle.std.proofs.Common.{Err, ◌∙◌, sym, subst, refl, arith}
 use Rattle.std.proofs.lemmas.Bool.{true≢false}
 use Rattle.rx_rules.proofs.Common.{PlaceId, Tree}
 use Rattle.rx_rules.specs.declared.tasks.Where.TheVariants.{At}
-use Rattle.rx_sound.proofs.Reached.{sound}
+use Rattle.rx_tree_laws.proofs.Reached.{sound}
 use Rattle.rx_finish.specs.declared.ledger.LedgerFault.{LedgerFault}
 use Rattle.rx_finish.specs.Callers.{Travels}
 use Rattle.rx_finish.specs.Calls.{ArriveReply, landing}

@@ -1,6 +1,6 @@
 use Rattle.std.proofs.Common.{ℕ, ◌<◌, Bool, cond, length, Err, ◌∙◌, sym, ap, subst, refl}
 use Rattle.std.proofs.lemmas.Bool.{true≢false}
-use Rattle.rx_sound.proofs.Reached.{sound}
+use Rattle.rx_tree_laws.proofs.Reached.{sound}
 use Rattle.rx_rules.proofs.Common.{Tree}
 use Rattle.rx_finish.specs.declared.ledger.LedgerFault.{LedgerFault}
 use Rattle.rx_finish.specs.Callers.{IsBare}

@@ -1,7 +1,7 @@
 use Rattle.std.proofs.Common.{Some, Err, not, ◌∙◌, sym, subst, refl, ap, arith}
 use Rattle.rx_rules.proofs.Common.{PlaceId, ScopeId, Tree}
-use Rattle.rx_sound.proofs.Reached.{sound}
 use Rattle.rx_rules.specs.declared.tasks.Where.{Where}
+use Rattle.rx_tree_laws.proofs.Reached.{sound}
 use Rattle.rx_finish.specs.declared.ledger.LedgerFault.{LedgerFault}
 use Rattle.rx_finish.specs.declared.ledger.LedgerFault.TheVariants.{NoMemory}
 use Rattle.rx_finish.specs.Callers.{IsMoving}

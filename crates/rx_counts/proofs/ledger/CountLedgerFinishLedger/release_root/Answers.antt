@@ -1,4 +1,4 @@
-use Rattle.rx_sound.proofs.Reached.{sound}
+use Rattle.rx_tree_laws.proofs.Reached.{sound}
 use Rattle.rx_counts.proofs.Lasting.{root_last}
 use Rattle.rx_counts.proofs.Outgoing.{root_released}
 use Rattle.rx_counts.proofs.ledger.CountLedgerFinishLedger.release_root.Goals as goal

@@ -1,8 +1,8 @@
 use Rattle.std.proofs.Common.{Err, Some, not, ◌∙◌, sym, subst, refl, ap}
 use Rattle.std.proofs.lemmas.Bool.{true≢false}
 use Rattle.rx_rules.proofs.Common.{PlaceId, Tree}
-use Rattle.rx_sound.proofs.Reached.{sound}
 use Rattle.rx_rules.specs.declared.tasks.Where.{Where}
+use Rattle.rx_tree_laws.proofs.Reached.{sound}
 use Rattle.rx_finish.specs.declared.ledger.LedgerFault.{LedgerFault}
 use Rattle.rx_finish.specs.Callers.{IsMoving}
 use Rattle.rx_finish.specs.Calls.{SpawnReply}

@@ -1,7 +1,7 @@
 use Rattle.std.proofs.Common.{arith, rules, ◌<◌, ◌^◌, ℕ, List, length, refl, true, false, ap, ◌∙◌, sym, subst}
 use Rattle.rx_kills.specs.Least.{entry_of}
 use Rattle.rx_rules.proofs.Common.{tree_in}
-use Rattle.rx_machine.specs.Picking.{IsReady}
+use Rattle.rx_machine.specs.Picking.{AreEnabled}
 use Rattle.rx_machine.proofs.BeforeTurn.{falling, calm, can-turn, counted}
 use Rattle.rx_machine.proofs.Noting.{roomy-can}
 use Rattle.rx_machine.proofs.Halting.{refused-same}
@@ -35,7 +35,7 @@ pass-requires-clause-game g c =
       w.1,
       w.2,
       falling (entry_of c.in-Some.due) c.games_come.ensures can c.in-Some.ensures.due,
-      subst (λ (ns : List ℕ). IsReady (tree_in w.1 w.2) ns) (sym c.in_ok-room.ensures.members) w.3.ready,
+      subst (λ (ns : List ℕ). AreEnabled (tree_in w.1 w.2) ns) (sym c.in_ok-room.ensures.members) w.3.ready,
     )
 
 pub take_pick-requires-clause-ready : goal.take_pick-requires-clause-ready
@@ -45,7 +45,7 @@ pub take_pick-requires-clause-game : goal.take_pick-requires-clause-game
 take_pick-requires-clause-game g c =
     let w = c.requires.game in
     let can = roomy-can c.args.p.now.script w.0 w.1 c.args.self.now c.room.new.self c.room-2.new.self w.2 c.games_come.ensures c.fold_is_reached.ensures c.in_ok-at.ensures.told w.3 in
-    let ready = subst (λ (ns : List ℕ). IsReady (tree_in w.1 w.2) ns) (sym c.in_ok-room.ensures.members) w.3.ready in
+    let ready = subst (λ (ns : List ℕ). AreEnabled (tree_in w.1 w.2) ns) (sym c.in_ok-room.ensures.members) w.3.ready in
     (w.0, w.1, w.2, calm c.games_come.ensures can c.in-None.ensures.none ready)
 
 pub returns-in-Some-clause-moved : goal.returns-in-Some-clause-moved
@@ -53,7 +53,7 @@ returns-in-Some-clause-moved g c = λ e. (
   false,
   λ code U G h.
       let can = roomy-can c.args.p.now.script code U c.args.self.now c.room.new.self c.room-2.new.self G c.games_come.ensures c.fold_is_reached.ensures c.in_ok-at.ensures.told h in
-      let ready = subst (λ (ns : List ℕ). IsReady (tree_in U G) ns) (sym c.in_ok-room.ensures.members) h.ready in
+      let ready = subst (λ (ns : List ℕ). AreEnabled (tree_in U G) ns) (sym c.in_ok-room.ensures.members) h.ready in
       c.pass.ensures c.args.p.now.script code U (g.P.Picks.number c.args.picks.now 0) G (falling (entry_of c.in-Some.due) c.games_come.ensures can c.in-Some.ensures.due) ready,
   λ j. refl,
 )
@@ -64,7 +64,7 @@ returns-in-None-clause-moved g c = λ e.
       true,
       λ code U G h.
           let can = roomy-can c.args.p.now.script code U c.args.self.now c.room.new.self c.room-2.new.self G c.games_come.ensures c.fold_is_reached.ensures c.in_ok-at.ensures.told h in
-          let ready = subst (λ (ns : List ℕ). IsReady (tree_in U G) ns) (sym c.in_ok-room.ensures.members) h.ready in
+          let ready = subst (λ (ns : List ℕ). AreEnabled (tree_in U G) ns) (sym c.in_ok-room.ensures.members) h.ready in
           moved.0 code U G (calm c.games_come.ensures can c.in-None.ensures.none ready),
       moved.1,
     )
@@ -72,13 +72,13 @@ returns-in-None-clause-moved g c = λ e.
 pub returns-in-None-clause-ended : goal.returns-in-None-clause-ended
 returns-in-None-clause-ended g c = λ e code U G h.
     let can = roomy-can c.args.p.now.script code U c.args.self.now c.room.new.self c.room-2.new.self G c.games_come.ensures c.fold_is_reached.ensures c.in_ok-at.ensures.told h in
-    let ready = subst (λ (ns : List ℕ). IsReady (tree_in U G) ns) (sym c.in_ok-room.ensures.members) h.ready in
+    let ready = subst (λ (ns : List ℕ). AreEnabled (tree_in U G) ns) (sym c.in_ok-room.ensures.members) h.ready in
     c.take_pick.ensures.ended e code U G (calm c.games_come.ensures can c.in-None.ensures.none ready)
 
 pub returns-in-None-clause-refused : goal.returns-in-None-clause-refused
 returns-in-None-clause-refused g c = on_errs c.take_pick.result (λ told same code U G h.
     let can = roomy-can c.args.p.now.script code U c.args.self.now c.room.new.self c.room-2.new.self G c.games_come.ensures c.fold_is_reached.ensures c.in_ok-at.ensures.told h in
-    let ready = subst (λ (ns : List ℕ). IsReady (tree_in U G) ns) (sym c.in_ok-room.ensures.members) h.ready in
+    let ready = subst (λ (ns : List ℕ). AreEnabled (tree_in U G) ns) (sym c.in_ok-room.ensures.members) h.ready in
     let counts = counted c.args.p.now.script code U c.args.self.now G c.games_come.ensures c.fold_is_reached.ensures c.reached_is_sound.ensures h in
     record {
       begun = told code U G (calm c.games_come.ensures can c.in-None.ensures.none ready);

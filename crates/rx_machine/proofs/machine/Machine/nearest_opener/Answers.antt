@@ -1,6 +1,6 @@
 use Rattle.std.proofs.Common.{arith, ◌≡◌, ◌<◌, true, false, length, Some, ap, ◌∙◌, sym}
 use Rattle.rx_rules.proofs.Common.{TaskId, ScopeId, tree_in}
-use Rattle.rx_sound.specs.Enabling.{is_left}
+use Rattle.rx_tree_laws.specs.Enabling.{is_left}
 use Rattle.rx_machine.proofs.Walking.{step_at, left_seen, found_left, goes_on, none_above_root}
 use Rattle.rx_machine.proofs.machine.Machine.nearest_opener.Goals as goal
 

@@ -1,6 +1,6 @@
 use Rattle.std.proofs.Common.{refl, subst}
 use Rattle.rx_rules.proofs.Common.{Vars, does}
-use Rattle.rx_control.specs.Stands.{Leaves}
+use Rattle.rx_control.specs.Stands.{AfterLocalStep}
 use Rattle.rx_machine.proofs.Stepping.{told-by, stands-by, stepped-local}
 use Rattle.rx_machine.proofs.Halting.{stopped, stopped-told}
 use Rattle.rx_machine.proofs.Requested.{any_err}
@@ -23,7 +23,7 @@ returns-in_ok-local_step-in-Local-clause-next g c = λ code U k q G a.
     let e = told-by a _ c.deref.result.now c.deref.ensures c.in-Local.ensures in
     let left = c.in_ok-local_step-in-Local.ensures q.term s.work.0 in
     let leaves =
-    subst (λ (v : Vars). Leaves c.args.p.now.script c.local_step.new.mover.control.value (does v c.args.here.0 q.term)) s.work.1 left.0 in
+    subst (λ (v : Vars). AfterLocalStep c.args.p.now.script c.local_step.new.mover.control.value (does v c.args.here.0 q.term)) s.work.1 left.0 in
     stepped-local a c.local_step.new.mover c.terms_sink.ensures e leaves left.1 left.2 left.3
 
 pub returns-in_err-local_step-in-Local-clause-refused : goal.returns-in_err-local_step-in-Local-clause-refused

@@ -1,6 +1,6 @@
 use Rattle.std.proofs.Common.{◌+◌, refl, subst}
 use Rattle.rx_rules.specs.declared.events.Cell.TheVariants.{Make, MakeFull}
-use Rattle.rx_store.specs.Table.{Table, Tells}
+use Rattle.rx_store.specs.Table.{Table, EventFits}
 use Rattle.rx_store.proofs.Changing.{free_slot}
 use Rattle.rx_store.proofs.Telling.{table, still_stands, make_told, full_told}
 use Rattle.rx_store.proofs.blocks.Blocks.make.Goals as goal
@@ -16,11 +16,11 @@ invariant_of-self c =
 
 pub returns-in-Ok-clause-told : goal.returns-in-Ok-clause-told
 returns-in-Ok-clause-told c =
-    let T : Table → Type 0 = λ z. Tells z (table c.take.new.self c.keep.new.slots.items (c.self.inside.made + 1)) (Make c.args.n c.start-start.result (c.self.inside.made + 1)) in
+    let T : Table → Type 0 = λ z. EventFits z (table c.take.new.self c.keep.new.slots.items (c.self.inside.made + 1)) (Make c.args.n c.start-start.result (c.self.inside.made + 1)) in
     subst T c.self.view_is
     (make_told c.self.inside.heap c.take.new.self c.self.inside.slots.items c.keep.new.slots.items c.self.inside.made c.args.n c.start-start.result c.in-Ok.block c.start-start.ensures c.requires.some c.in-Ok.ensures.least c.in-Ok.ensures.len c.in-Ok.ensures.laid c.in-Ok.ensures.live c.in-Ok.ensures.words c.keep.ensures)
 
 pub returns-in-Err-clause-told : goal.returns-in-Err-clause-told
 returns-in-Err-clause-told c =
-    let T : Table → Type 0 = λ z. Tells z (table c.take.new.self c.self.inside.slots.items c.self.inside.made) (MakeFull c.args.n) in
+    let T : Table → Type 0 = λ z. EventFits z (table c.take.new.self c.self.inside.slots.items c.self.inside.made) (MakeFull c.args.n) in
     subst T c.self.view_is (full_told c.self.inside.heap c.take.new.self c.self.inside.slots.items c.self.inside.made c.args.n c.in-Err.ensures.err c.in-Err.ensures.no_start)

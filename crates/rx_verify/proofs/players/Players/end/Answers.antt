@@ -5,7 +5,7 @@ use Rattle.std.proofs.lemmas.List.{length-set}
 use Rattle.std.proofs.lemmas.Option.{slice_get_within}
 use Rattle.rx_rules.proofs.Common.{Fault}
 use Rattle.rx_rules.specs.declared.entries.Act.TheVariants.{End}
-use Rattle.rx_sound.proofs.Histories.{fold_reached}
+use Rattle.rx_tree_laws.proofs.Histories.{fold_reached}
 use Rattle.rx_verify.specs.declared.players.Slot.TheVariants.{Here, Over}
 use Rattle.rx_verify.specs.declared.seat.Seat.{Seat}
 use Rattle.rx_verify.proofs.AdmitPlayers.{carries, ended, ends_only, ends_with}

@@ -3,12 +3,12 @@ use Rattle.std.specs.Global.{Box}
 use Rattle.rx_rules.proofs.Common.{TaskId, Fault}
 use Rattle.rx_rules.specs.declared.entries.Act.{Act}
 use Rattle.rx_rules.specs.declared.entries.Act.TheVariants.{End}
-use Rattle.rx_sound.proofs.Histories.{fold_reached}
+use Rattle.rx_tree_laws.proofs.Histories.{fold_reached}
 use Rattle.rx_syntax.specs.Shape.{Shape}
 use Rattle.rx_verify.specs.declared.players.Players.{Players}
 use Rattle.rx_verify.specs.declared.players.Slot.TheVariants.{Here}
 use Rattle.rx_verify.specs.declared.seat.Seat.{Seat}
-use Rattle.rx_verify.specs.Reaching.{Granted, IsMade, Makes, Ready}
+use Rattle.rx_verify.specs.Reaching.{Granted, IsMade, TaskMakesAct, Ready}
 use Rattle.rx_verify.proofs.AdmitPlayers.{landed}
 use Rattle.rx_verify.proofs.Reaching.{asks_so, ends_so, goes_after}
 use Rattle.rx_verify.proofs.players.Players.go_on.Goals as goal
@@ -16,13 +16,13 @@ use Rattle.rx_verify.proofs.players.Players.go_on.Goals as goal
 pub land-requires-clause-away : goal.land-requires-clause-away
 land-requires-clause-away c =
     let r = c.requires.ready in
-    let m = subst (λ (v : Act). Makes c.args.p.now.script r.1 r.2 r.3 c.args.number c.args.self.now r.5.awaits.players.seats c.args.task r.4 v) c.in-Arrive.is r.5.makes in
+    let m = subst (λ (v : Act). TaskMakesAct c.args.p.now.script r.1 r.2 r.3 c.args.number c.args.self.now r.5.awaits.players.seats c.args.task r.4 v) c.in-Arrive.is r.5.makes in
     (m.0, m.1)
 
 pub returns-in-Arrive : goal.returns-in-Arrive
 returns-in-Arrive c = λ code U es js batch a f.
     let shape = c.args.p.now.script in
-    let m = subst (λ (v : Act). Makes shape U es js c.args.number c.args.self.now a.awaits.players.seats c.args.task batch v) c.in-Arrive.is a.makes in
+    let m = subst (λ (v : Act). TaskMakesAct shape U es js c.args.number c.args.self.now a.awaits.players.seats c.args.task batch v) c.in-Arrive.is a.makes in
     let l = c.land.ensures m.0 m.1 in
     landed shape code U es js c.args.number c.args.self.now c.args.task c.args.act.now batch a.awaits f fold_reached c.land.new.self m.0 l.0 c.in-Arrive.place _ (λ u ne. ne) c.seats_arrive.ensures m.1 c.in-Arrive.is m.2
     l.3 (ap (λ (v : Players). v.parents.items) l.1) refl l.2 (ap (λ (v : Players). v.table) l.1) (ap (λ (v : Players). v.marks) l.1)

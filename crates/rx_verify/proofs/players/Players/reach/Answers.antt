@@ -4,7 +4,7 @@ use Rattle.rx_base.proofs.Elements.{empty-from}
 use Rattle.rx_rules.proofs.Common.{tree_of}
 use Rattle.rx_ledger.specs.TermAsks.{MayAskAct}
 use Rattle.rx_history.specs.Events.{events_of}
-use Rattle.rx_sound.proofs.Histories.{fold_reached}
+use Rattle.rx_tree_laws.proofs.Histories.{fold_reached}
 use Rattle.rx_verify.specs.declared.players.Slot.{Slot}
 use Rattle.rx_verify.specs.declared.seat.Seat.{Seat}
 use Rattle.rx_verify.proofs.AdmitPlay.{arrives, over, stays_away, unborn}

@@ -2,7 +2,7 @@ use Rattle.std.proofs.Common.{◌≡◌, ℕ, Bool, List, Some, get_or, slice_ge
 use Rattle.std.specs.Global.{Box}
 use Rattle.rx_rules.proofs.Common.{ScopeId}
 use Rattle.rx_rules.specs.Plays.{Fits}
-use Rattle.rx_sound.proofs.Histories.{fold_reached}
+use Rattle.rx_tree_laws.proofs.Histories.{fold_reached}
 use Rattle.rx_verdict.specs.Walks.{next_does}
 use Rattle.rx_verify.specs.declared.seat.Seat.{Seat}
 use Rattle.rx_verify.specs.declared.players.Slot.{Slot}

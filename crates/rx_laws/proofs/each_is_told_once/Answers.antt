@@ -1,5 +1,0 @@
-use Rattle.rx_laws.proofs.ToldOnce.{told-once}
-use Rattle.rx_laws.proofs.each_is_told_once.Goals as goal
-
-pub returns : goal.returns
-returns c = told-once

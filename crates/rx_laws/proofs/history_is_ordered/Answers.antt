@@ -1,5 +1,0 @@
-use Rattle.rx_laws.proofs.HistoryOrder.{history-order}
-use Rattle.rx_laws.proofs.history_is_ordered.Goals as goal
-
-pub returns : goal.returns
-returns c = history-order

@@ -1,5 +1,0 @@
-use Rattle.rx_laws.proofs.LawsHold.{loss-exact}
-use Rattle.rx_laws.proofs.losses_are_exact.Goals as goal
-
-pub returns : goal.returns
-returns c = λ places es small a. loss-exact places small es a

@@ -1,5 +1,0 @@
-use Rattle.rx_laws.proofs.Masked.{masked-lost}
-use Rattle.rx_laws.proofs.masked_is_lost.Goals as goal
-
-pub returns : goal.returns
-returns c = masked-lost

@@ -1,5 +1,0 @@
-use Rattle.rx_laws.proofs.JournalOrder.{run-order}
-use Rattle.rx_laws.proofs.run_is_ordered.Goals as goal
-
-pub returns : goal.returns
-returns c = run-order

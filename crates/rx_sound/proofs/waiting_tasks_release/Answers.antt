@@ -1,5 +1,0 @@
-use Rattle.rx_sound.proofs.Granting.{release_held, held-releases}
-use Rattle.rx_sound.proofs.waiting_tasks_release.Goals as goal
-
-pub returns : goal.returns
-returns c = λ vars here t. (release_held vars here t, held-releases vars here t)

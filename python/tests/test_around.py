@@ -78,20 +78,20 @@ class Launched(unittest.TestCase):
     def test_who_does_not_show_the_token(self):
         """Nothing of it is read, and the job goes on."""
         done = self.play("""
-            import pickle, socket
+            import errno, pickle, socket
             class Bomb:
                 def __reduce__(self):
                     return os.system, (f"touch {FOLDER}/bang",)
             with rx10.launched(places=2, port=PORT) as rt:
                 for hello in (b"", b"x" * 20, bytes.fromhex(os.environ["RX10_TOKEN"])[:15], pickle.dumps(Bomb())):
                     with socket.create_connection(("127.0.0.1", PORT)) as sock:
-                        sock.sendall(hello)
-                        sock.shutdown(socket.SHUT_WR)
                         sock.settimeout(300)
                         try:
+                            sock.sendall(hello)
+                            sock.shutdown(socket.SHUT_WR)
                             assert sock.recv(1) == b"", hello
-                        except ConnectionResetError:
-                            pass
+                        except OSError as fault:                # the hub may have hung up before any of these calls
+                            assert fault.errno in (errno.ECONNRESET, errno.EPIPE, errno.ENOTCONN), hello
                 assert rt.at(1, pow, 3, 2) == 9 and not os.path.exists(f"{FOLDER}/bang")
                 print("well")
             """, places=1)

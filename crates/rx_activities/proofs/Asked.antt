@@ -1,8 +1,7 @@
 -- What an activity shows by its pass of a request to the ledger.
-use Rattle.std.proofs.Common.{◌≡◌, ◌+◌, ◌<◌, ◌^◌, ℕ, Bool, true, false, List, [], ◌∷◌, ◌++◌, length, map, reverse, Option, Some, None, slice_get, refl, ap, sym, ◌∙◌, subst}
-use Rattle.std.proofs.lemmas.List.{reverse-append, reverse-reverse}
+use Rattle.std.proofs.Common.{◌≡◌, ◌+◌, ◌<◌, ◌^◌, ℕ, Bool, true, false, List, [], ◌++◌, length, map, Option, Some, None, slice_get, refl, ap, sym, ◌∙◌, subst}
 use Rattle.std.proofs.lemmas.Option.{same_Some}
-use Rattle.rx_rules.proofs.Common.{PlaceId, ScopeId, Fault, Block, Term, Does, Opens, Calls, Spawns, Waits, Releases, Prints, Counts, Done, does, begins, granted, place_number, Tree, Cells, Given, Folds}
+use Rattle.rx_rules.proofs.Common.{PlaceId, Fault, Block, Term, Does, Opens, Calls, Spawns, Waits, Releases, Prints, Counts, Done, does, begins, granted, place_number, Tree, Cells, Given, Folds}
 use Rattle.rx_rules.specs.declared.entries.Entry.{Entry}
 use Rattle.rx_rules.specs.declared.tasks.Kind.{Kind}
 use Rattle.rx_rules.specs.declared.tasks.Kind.TheVariants.{Finish as OfFinish}
@@ -47,6 +46,7 @@ use Rattle.rx_activities.specs.Knowing.{StandsSo, ActivityInvariant, TicketServe
 use Rattle.rx_activities.specs.Inside.Sending.{SuitsStep}
 use Rattle.rx_tree_laws.proofs.Silent.{silent_so}
 use Rattle.rx_tree_laws.specs.TermSteps.{Silent}
+use Rattle.rx_ledger.proofs.TermAsks.{newest, none_own}
 
 -- Tickets.
 
@@ -83,23 +83,6 @@ no_path o h = subst NoPath (sym h) tt
 
 abbrev pub kinds_of : Owned → List Kind
 kinds_of own = map (λ s. s.1) own
-
-first_kind : (own : Owned) (k : Kind) (ks : List Kind) → kinds_of own ≡ k ∷ ks → (s : ScopeId) × (rest : Owned) × (own ≡ (s, k) ∷ rest) × (kinds_of rest ≡ ks)
-first_kind [] k ks h = absurd (let g : ⊥ = cc h in g)
-first_kind (x ∷ own) k ks h =
-    let same : x.1 ≡ k = cc h in
-    let more : kinds_of own ≡ ks = cc h in
-    (x.0, own, (λ i. (x.0, same i) ∷ own), more)
-
--- the newest scope of a task
-pub newest : (own : Owned) (front : List Kind) (k : Kind) → reverse (kinds_of own) ≡ front ++ k ∷ [] → (s : ScopeId) × (rest : Owned) × (own ≡ (s, k) ∷ rest) × (kinds_of rest ≡ reverse front)
-newest own front k h = first_kind own k (reverse front) (sym (reverse-reverse (kinds_of own)) ∙ (ap (λ (ks : List Kind). reverse ks) h ∙ reverse-append front (k ∷ [])))
-
-none_own : (own : Owned) → reverse (kinds_of own) ≡ [] → own ≡ []
-none_own [] h = refl
-none_own (x ∷ own) h =
-    let e : x.1 ∷ kinds_of own ≡ [] = sym (reverse-reverse (kinds_of (x ∷ own))) ∙ ap (λ (ks : List Kind). reverse ks) h in
-    absurd (let g : ⊥ = cc e in g)
 
 -- the note is of the seat, and has seen as much
 pub record OfSeat (a : Hand) (n : Note EventItem) : Type 0 where

@@ -1,10 +1,10 @@
 -- What a step asks for, what a started task's statement is, and what the control is after the request was made.
-use Rattle.std.proofs.Common.{◌≡◌, ℕ, List, Option, Some, refl, ap, sym, ◌∙◌}
+use Rattle.std.proofs.Common.{◌≡◌, ℕ, List, Option, Some, ap, sym, ◌∙◌}
 use Rattle.rx_rules.proofs.Common.{PlaceId, Fault, Term, Empty, Vars, Does, Local, Makes, Gets, Puts, Forgets, Opens, Calls, Spawns, Waits, Releases, Prints, Counts, Done, does, begins, granted, replaced}
 use Rattle.rx_syntax.specs.Shape.{Shape}
 use Rattle.rx_control.specs.declared.control.Control.{Control}
 use Rattle.rx_history.specs.declared.step.Next.{Next}
-use Rattle.rx_history.specs.declared.step.Next.TheVariants.{Book as BookStep, Done as EndStep}
+use Rattle.rx_history.specs.declared.step.Next.TheVariants.{Book as BookStep}
 use Rattle.rx_history.specs.declared.step.Want.TheVariants.{Wait as WantWait}
 use Rattle.rx_history.specs.Next.{next_of, carried}
 use Rattle.rx_control.specs.Stands.{StandsFor}
@@ -34,9 +34,6 @@ started_path next to vars here t is h = path_of (does vars here t) (begins t) to
 
 -- The control.
 
-pub ready_kept : (s : Shape) (n : Next) (c : Control) → (n ≡ BookStep WantWait → ⊥) → IsReady s n c c
-ready_kept s n c other = record { vars = refl; waits = λ e t here stands is. absurd (other e); same = λ a b. refl }
-
 pub ready_waits : (s : Shape) (n : Next) (old new : Control) → n ≡ BookStep WantWait → new.vars ≡ old.vars
     → ((t : Term) (here : PlaceId) (faults : List Fault) → StandsFor s old t → carried (does old.vars here.0 t) ≡ Some faults → StandsFor s new (replaced t Empty))
     → ((t : Term) (here : PlaceId) (faults list : List Fault) → does old.vars here.0 t ≡ Waits faults → granted list (replaced t Empty) ≡ granted list t) → IsReady s n old new
@@ -47,12 +44,4 @@ ready_waits s n old new waits vars after wait =
           let d = asks_wait (does old.vars here.0 t) (sym is ∙ e) in
           (after t here d.0 stands (ap carried d.1), λ list. wait t here d.0 list d.1);
       same = λ a b. absurd (a waits);
-    }
-
-pub ready_ends : (s : Shape) (n : Next) (old new : Control) → n ≡ EndStep → new.vars ≡ old.vars → IsReady s n old new
-ready_ends s n old new ends vars =
-    record {
-      vars = vars;
-      waits = λ e t here stands is. absurd (let f : EndStep ≡ BookStep WantWait = sym ends ∙ e in let g : ⊥ = cc f in g);
-      same = λ a b. absurd (b ends);
     }

@@ -1,10 +1,9 @@
 -- A call of the ledger's book that appended what was due and then one entry.
 use Rattle.std.proofs.Common.{◌≡◌, ℕ, suc, ◌+◌, ◌<◌, ◌≤◌, ◌^◌, List, [], ◌∷◌, ◌++◌, map, length, Some, slice_get, ap, sym, ◌∙◌, subst, append_assoc, arith, length-append}
 use Rattle.std.proofs.lemmas.List.{map-append}
-use Rattle.rx_rules.proofs.Common.{Block, tree_of, Given, Folds}
+use Rattle.rx_rules.proofs.Common.{Block, tree_of, Folds}
 use Rattle.rx_rules.specs.declared.entries.Entry.{Entry}
 use Rattle.rx_tree_laws.specs.Sound.{Each}
-use Rattle.rx_finish.specs.Callers.{HasNumbers}
 use Rattle.rx_ticket.specs.declared.tickets.AnyTicket.{AnyTicket}
 use Rattle.rx_history.specs.Setups.{given}
 use Rattle.rx_kills.specs.declared.schedule.Due.{Due}
@@ -50,9 +49,6 @@ hosts_due c m (Joins p ∷ ds) = (tt, hosts_due c m ds)
 hosts_due c m (Dies p ∷ ds) = (tt, hosts_due c m ds)
 
 module _ (f : LedgerFixed) (v z : View EntryItem) (op : LedgerOp) (r : LedgerReply) (c : Called shown (LedgerDoes f) (LedgerIsLegal f) v op r z) (own : v.mine ≡ entries_by v.number v.seen) where
-  abbrev pub U : Given
-  U = given f.setup
-
   abbrev pub before : List (Stamped EntryItem)
   before = v.seen ++ c.between
 
@@ -208,6 +204,3 @@ module _ (f : LedgerFixed) (v z : View EntryItem) (op : LedgerOp) (r : LedgerRep
           let there_before = tickets_stay_good (given f.setup) (entries_at v.seen) (entries_at c.between) op.request (subst (Folds (given f.setup)) parts_of folds_lines) (spared op.request.ticket holds)
           (numbers_are_left f.setup.places (entries_at v.seen ++ entries_at c.between) (let m = ap length parts_of in omega (arith, low, m))) may in
           asks_after f.setup.places lines a.due op.request (subst (λ (es : List Entry). MayApply (tree_of f.setup.places es) op.request) (sym parts_of) there_before)
-
-      pub numbers_now : length (entries_at z.seen) + 1 < 2 ^ 31 → HasNumbers (tree_of f.setup.places (entries_at z.seen))
-      numbers_now few = numbers_are_left f.setup.places (entries_at z.seen) few

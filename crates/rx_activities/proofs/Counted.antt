@@ -19,7 +19,6 @@ use Rattle.rx_book.specs.declared.views.View.{View}
 use Rattle.rx_book.specs.Passes.{view_of}
 use Rattle.rx_book.specs.Named.{BookName}
 use Rattle.rx_ledger.specs.declared.asks.Request.{Request}
-use Rattle.rx_ledger.specs.declared.asks.Reply.{Reply}
 use Rattle.rx_ledger.specs.declared.asks.Reply.TheVariants.{Census as Counted}
 use Rattle.rx_ledger.specs.Told.{due_entries}
 use Rattle.rx_ledger.specs.Answering.{asker}
@@ -45,9 +44,6 @@ use Rattle.rx_activities.proofs.Sent.{between, lines, before, behind, applied, o
 use Rattle.rx_activities.proofs.SentSo.{term_so, goes_on, one_act, knows_with}
 
 module _ (shape : Shape) (L : BookName LedgerFixed) (rest : Hand) (child : Option Child) (program : L.fixed.program.script ≡ shape) (ticket : Caller) (places : ℕ) (w : WasSent shape L rest (Counted ticket places) child) where
-  abbrev reply : Reply
-  reply = Counted ticket places
-
   answer : Answered (before shape L rest (Counted ticket places) child w) w.op.request (Counted ticket places) (behind shape L rest (Counted ticket places) child w)
   answer = applied shape L rest (Counted ticket places) child w
 

@@ -35,10 +35,11 @@ use Rattle.rx_activities.specs.declared.hand.Hand.{Hand}
 use Rattle.rx_activities.specs.Knowing.{StandsSo, entries_seen, kinds_told}
 use Rattle.rx_activities.specs.Inside.Births.{IsStarted}
 use Rattle.rx_activities.specs.Inside.Sending.{SuitsStep, WasSent, WasGranted}
-use Rattle.rx_activities.proofs.Asked.{kinds_of, newest}
+use Rattle.rx_activities.proofs.Asked.{kinds_of}
 use Rattle.rx_activities.proofs.GrantedSo.{who_is, GrantedSo, ready_same, ready_wait, known_same, kinds_now, was_granted}
 use Rattle.rx_activities.proofs.Sent.{before, behind, applied}
 use Rattle.rx_activities.proofs.SentSo.{suits_so, path_so, next_so, own_now, goes_on, one_act}
+use Rattle.rx_ledger.proofs.TermAsks.{newest}
 
 -- the scopes without the newest
 taken : (own rest : Owned) (x : ScopeId × Kind) → own ≡ x ∷ rest → drop 1 own ≡ rest

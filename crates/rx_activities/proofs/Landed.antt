@@ -1,7 +1,7 @@
 -- The arrival of a task: what it shows for it, what is answered, and what it knows then.
 use Rattle.std.proofs.Common.{◌≡◌, ◌+◌, ◌<◌, ◌^◌, Bool, List, [], ◌∷◌, ◌++◌, length, map, Option, Some, None, slice_get, refl, ap, sym, ◌∙◌, subst, arith}
 use Rattle.std.proofs.lemmas.Option.{same_Some}
-use Rattle.rx_rules.proofs.Common.{PlaceId, TaskId, Block, tree_of, Cells, Tree}
+use Rattle.rx_rules.proofs.Common.{TaskId, Block, tree_of, Cells}
 use Rattle.rx_rules.specs.declared.entries.Act.TheVariants.{Arrive}
 use Rattle.rx_rules.specs.declared.entries.Entry.{Entry}
 use Rattle.rx_rules.specs.declared.entries.Entry.TheVariants.{Step}
@@ -10,8 +10,7 @@ use Rattle.rx_tree_laws.specs.Sound.{Each}
 use Rattle.rx_finish.specs.declared.ledger.Caller.{Caller}
 use Rattle.rx_finish.specs.Callers.{MayAskMoving, HasNumbers}
 use Rattle.rx_finish.specs.Calls.{landing}
-use Rattle.rx_ticket.specs.declared.tickets.AnyTicket.{AnyTicket}
-use Rattle.rx_ticket.specs.declared.tickets.AnyTicket.TheVariants.{Moving, Running, Held, Host}
+use Rattle.rx_ticket.specs.declared.tickets.AnyTicket.TheVariants.{Moving, Running}
 use Rattle.rx_syntax.specs.Shape.{Stands}
 use Rattle.rx_history.specs.Setups.{given}
 use Rattle.rx_history.specs.declared.asks.Ask.TheVariants.{Arrive as AskArrive}
@@ -24,11 +23,11 @@ use Rattle.rx_book.specs.Named.{BookName}
 use Rattle.rx_book.specs.Calls.{Called}
 use Rattle.rx_ledger.specs.declared.asks.Request.{Request}
 use Rattle.rx_ledger.specs.declared.asks.Reply.{Reply}
-use Rattle.rx_ledger.specs.declared.asks.Reply.TheVariants.{Opened, Called as CalledOut, Spawned, Landed, Waits, Released, Ended, Printed, Census as Counted, RootDone, NotYet, Lost, NoMemory}
+use Rattle.rx_ledger.specs.declared.asks.Reply.TheVariants.{Landed}
 use Rattle.rx_ledger.specs.Told.{due_entries}
-use Rattle.rx_ledger.specs.Answering.{Answers, Lands, MustWait, task as by_task, host as by_host, asker}
+use Rattle.rx_ledger.specs.Answering.{Answers, Lands, asker}
 use Rattle.rx_ledger.specs.Asking.{MayApply}
-use Rattle.rx_ledger.specs.Kept.{KeeperView, is_refusal, Answered, Applied, AppliedIf}
+use Rattle.rx_ledger.specs.Kept.{KeeperView, is_refusal, Answered, AppliedIf}
 use Rattle.rx_ledger.specs.Owned.{own_told}
 use Rattle.rx_ledger.specs.Staying.{NotBy, NotOf}
 use Rattle.rx_ledger.specs.Calling.{owned_by}
@@ -96,70 +95,6 @@ module _ (L : BookName LedgerFixed) (j : Journey) (op : LedgerOp) (is : op.reque
 
 -- What is answered.
 
--- the answers to an arrival
-abbrev pub Arrivals : Reply → Type 0
-Arrivals (Opened ticket scope) = ⊥
-Arrivals (CalledOut ticket callee) = ⊥
-Arrivals (Spawned ticket child) = ⊥
-Arrivals (Landed ticket) = Unit {0}
-Arrivals (Waits ticket) = ⊥
-Arrivals (Released ticket outcome) = ⊥
-Arrivals Ended = ⊥
-Arrivals (Printed ticket) = ⊥
-Arrivals (Counted ticket places) = ⊥
-Arrivals RootDone = ⊥
-Arrivals (NotYet place request) = ⊥
-Arrivals (Lost place at) = Unit {0}
-Arrivals (NoMemory request) = Unit {0}
-
--- who asks so does not run, wait, or ask for the host
-abbrev IsMoving : AnyTicket → Type 0
-IsMoving (Moving who) = Unit {0}
-IsMoving (Running who) = ⊥
-IsMoving (Held who) = ⊥
-IsMoving Host = ⊥
-
-moves : (q : Request) (who : Caller) (t : AnyTicket) → q ≡ arrival who → q.ticket ≡ t → IsMoving t
-moves q who t is e = subst IsMoving (sym (ap (λ (x : Request). x.ticket) is) ∙ e) tt
-
-must_wait : (T : Tree) (place : PlaceId) (q : Request) (who : Caller) → q ≡ arrival who → MustWait T place q → ⊥
-must_wait T place q who is (by_task w asks free hindered) = moves q who (Held w) is (ap (λ (x : Request). x.ticket) asks)
-must_wait T place q who is (by_host asks hindered) = moves q who Host is (ap (λ (x : Request). x.ticket) asks)
-
-answers_arrival : (T : Tree) (es : List Entry) (q : Request) (r : Reply) (es' : List Entry) (who : Caller) → q ≡ arrival who → Answers T es q r es' → Arrivals r
-answers_arrival T es q (Opened ticket scope) es' who is a = moves q who (Running a.who) is (ap (λ (x : Request). x.ticket) a.asked)
-answers_arrival T es q (CalledOut ticket callee) es' who is a = moves q who (Running a.who) is (ap (λ (x : Request). x.ticket) a.asked)
-answers_arrival T es q (Spawned ticket child) es' who is a = moves q who (Running a.who) is (ap (λ (x : Request). x.ticket) a.asked)
-answers_arrival T es q (Landed ticket) es' who is a = tt
-answers_arrival T es q (Waits ticket) es' who is a = moves q who (Running a.who) is (ap (λ (x : Request). x.ticket) a.asked)
-answers_arrival T es q (Released ticket outcome) es' who is a = moves q who (Held a.who) is (ap (λ (x : Request). x.ticket) a.asked)
-answers_arrival T es q Ended es' who is a = moves q who (Running a.who) is (ap (λ (x : Request). x.ticket) a.asked)
-answers_arrival T es q (Printed ticket) es' who is a = moves q who (Running a.who) is (ap (λ (x : Request). x.ticket) a.asked)
-answers_arrival T es q (Counted ticket places) es' who is a = moves q who (Running a.who) is (ap (λ (x : Request). x.ticket) a.asked)
-answers_arrival T es q RootDone es' who is a = moves q who Host is (ap (λ (x : Request). x.ticket) a.0)
-answers_arrival T es q (NotYet place request) es' who is a = must_wait T place q who is a.1
-answers_arrival T es q (Lost place at) es' who is a = tt
-answers_arrival T es q (NoMemory request) es' who is a = tt
-
-applied_arrival : (k k' : KeeperView) (q : Request) (r : Reply) (who : Caller) → q ≡ arrival who → Applied k q r k' → Arrivals r
-applied_arrival k k' q (Opened ticket scope) who is a = answers_arrival _ _ q (Opened ticket scope) k'.entries who is a.answers
-applied_arrival k k' q (CalledOut ticket callee) who is a = answers_arrival _ _ q (CalledOut ticket callee) k'.entries who is a.answers
-applied_arrival k k' q (Spawned ticket child) who is a = answers_arrival _ _ q (Spawned ticket child) k'.entries who is a.answers
-applied_arrival k k' q (Landed ticket) who is a = tt
-applied_arrival k k' q (Waits ticket) who is a = answers_arrival _ _ q (Waits ticket) k'.entries who is a.answers
-applied_arrival k k' q (Released ticket outcome) who is a = answers_arrival _ _ q (Released ticket outcome) k'.entries who is a.answers
-applied_arrival k k' q Ended who is a = answers_arrival _ _ q Ended k'.entries who is a.answers
-applied_arrival k k' q (Printed ticket) who is a = answers_arrival _ _ q (Printed ticket) k'.entries who is a.answers
-applied_arrival k k' q (Counted ticket places) who is a = answers_arrival _ _ q (Counted ticket places) k'.entries who is a.answers
-applied_arrival k k' q RootDone who is a = answers_arrival _ _ q RootDone k'.entries who is a.answers
-applied_arrival k k' q (NotYet place request) who is a = answers_arrival _ _ q (NotYet place request) k'.entries who is a.answers
-applied_arrival k k' q (Lost place at) who is a = tt
-applied_arrival k k' q (NoMemory request) who is a = tt
-
--- an arrival has no other answers
-pub replied_arrival : (f : LedgerFixed) (v w : View EntryItem) (op : LedgerOp) (r : Reply) (who : Caller) → op.request ≡ arrival who → IsReplied f v op r w → Arrivals r
-replied_arrival f v w op r who is h = subst Arrivals h.is (applied_arrival _ _ op.request h.answer.reply who is h.called.replied.applied)
-
 -- whatever is answered, the pass is the run's
 pub replied_run : (L : BookName LedgerFixed) (old new : Pass EntryItem) (op : LedgerOp) (r : Reply) → word_of old ≡ L.word → word_of new ≡ word_of old → IsReplied L.fixed (view_of old) op r (view_of new) → IsOfRun L new
 replied_run L old new op r word own h = record { word = own ∙ word; lawful = h.called.lawful }
@@ -205,9 +140,6 @@ module _ (L : BookName LedgerFixed) (j : Journey) (comes : TravellerInvariant L 
 
   abbrev e : Entry
   e = Step lands.who.task (Arrive (landing lands.who.place)) op.request.batch
-
-  ticket_is : ticket ≡ record lands.who { place = Stays (landing lands.who.place) }
-  ticket_is = lands.ticket_is
 
   task_is : ticket.task ≡ lands.who.task
   task_is = ap (λ (x : Caller). x.task) lands.ticket_is

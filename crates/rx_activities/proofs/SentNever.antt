@@ -3,10 +3,10 @@ use Rattle.std.proofs.Common.{◌≡◌, Option, ap}
 use Rattle.rx_rules.proofs.Common.{Block}
 use Rattle.rx_syntax.specs.Shape.{Shape, Stands}
 use Rattle.rx_finish.specs.declared.ledger.Caller.{Caller}
-use Rattle.rx_history.specs.declared.asks.Ask.TheVariants.{Arrive as AskArrive, Root as AskRoot}
+use Rattle.rx_history.specs.declared.asks.Ask.TheVariants.{Arrive as AskArrive}
 use Rattle.rx_book.specs.Named.{BookName}
 use Rattle.rx_ledger.specs.declared.asks.Request.{Request}
-use Rattle.rx_ledger.specs.declared.asks.Reply.TheVariants.{Landed, RootDone}
+use Rattle.rx_ledger.specs.declared.asks.Reply.TheVariants.{Landed}
 use Rattle.rx_ledger.specs.Kept.{Answered}
 use Rattle.rx_objects.specs.declared.ledger.LedgerFixed.{LedgerFixed}
 use Rattle.rx_activities.specs.declared.replies.Child.{Child}
@@ -20,8 +20,3 @@ module _ (shape : Shape) (L : BookName LedgerFixed) (rest : Hand) (child : Optio
   never_lands ticket w =
       let a : Answered (before shape L rest (Landed ticket) child w) w.op.request (Landed ticket) (behind shape L rest (Landed ticket) child w) = applied shape L rest (Landed ticket) child w in
       does_so shape L rest (Landed ticket) child w program code stands (w.knows.stands code stands) AskArrive (ap (λ (q : Request). q.ask) a.answers.asked)
-
-  pub never_root : WasSent shape L rest RootDone child → ⊥
-  never_root w =
-      let a : Answered (before shape L rest RootDone child w) w.op.request RootDone (behind shape L rest RootDone child w) = applied shape L rest RootDone child w in
-      does_so shape L rest RootDone child w program code stands (w.knows.stands code stands) AskRoot (ap (λ (q : Request). q.ask) a.answers.0)

@@ -2,7 +2,7 @@
 use Rattle.std.proofs.Common.{◌≡◌, ◌+◌, ◌<◌, ◌≤◌, ◌^◌, ℕ, List, [], ◌∷◌, ◌++◌, length, map, Option, Some, slice_get, refl, ap, sym, ◌∙◌, subst, arith, append_assoc, length-append}
 use Rattle.std.proofs.lemmas.Option.{same_Some}
 use mathlib.Core.List.{IsPrefix}
-use Rattle.rx_rules.proofs.Common.{PlaceId, TaskId, Block, Term, Vars, Does, does, begins, tree_of, Given, Folds}
+use Rattle.rx_rules.proofs.Common.{PlaceId, TaskId, Block, Term, Vars, does, begins, tree_of, Given, Folds}
 use Rattle.rx_base.proofs.Prefixes.{prefix-trans}
 use Rattle.rx_rules.specs.declared.entries.Act.{Act}
 use Rattle.rx_rules.specs.declared.entries.Entry.{Entry}
@@ -89,9 +89,6 @@ module _ (shape : Shape) (L : BookName LedgerFixed) (rest : Hand) (reply : Reply
   abbrev new : List Entry
   new = (called shape L rest reply child w).replied.new
 
-  abbrev now : List Entry
-  now = entries_at (view_of rest.pass).seen
-
   -- there are no fewer places than before
   pub rise : (tree_seen L.fixed w.hand.pass).places ≤ (tree_of L.fixed.setup.places (entries_at (view_of rest.pass).seen)).places
   rise =
@@ -102,9 +99,6 @@ module _ (shape : Shape) (L : BookName LedgerFixed) (rest : Hand) (reply : Reply
   module _ (program : L.fixed.program.script ≡ shape) (code : Block) (stands : Stands L.fixed.program.script code) (s : StandsSo code L w.hand w.knows.who.task) where
     abbrev t : Term
     t = s.stand.term
-
-    abbrev d : Does
-    d = does s.stand.vars w.hand.place.0 s.stand.term
 
     pub term_so : StandsFor shape w.hand.control.value s.stand.term
     term_so = subst (λ (x : Shape). StandsFor x w.hand.control.value s.stand.term) program s.term

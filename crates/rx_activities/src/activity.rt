@@ -4,7 +4,7 @@ ghost use Rattle.rx_objects.specs.Opened.{PlaceIs};
 ghost use Rattle.rx_activities.specs.Knowing.{IsOfRun, ActivityInvariant};
 ghost use Rattle.rx_activities.specs.Starting.{IsOpening, TravellerInvariant};
 
-use crate::hand::{Hand, Journey, spend};
+use crate::hand::{Hand, Journey};
 use crate::naming::{LedgerPass, Naming};
 use crate::turn::{Company, make_turn};
 use rx_base::{PlaceId, ScopeId};
@@ -166,7 +166,7 @@ pub(crate) fn given_up<N: Naming>(hand: Box<Hand>) -> LedgerPass<N>
 pub(crate) fn failed<N: Naming>(ticket: AnyTicket, pass: Pass<EntryItem>) -> LedgerPass<N>
     requires { IsOfRun N.ledger pass }
 {
-    spend(ticket);
+    ticket.spent();
     LedgerPass::of(pass)
 }
 

@@ -36,19 +36,6 @@ pub struct Journey {
     pub pass: Pass<EntryItem>,
 }
 
-/// Spends a ticket of which nothing more is asked.
-pub(crate) fn spend(ticket: AnyTicket) {
-    match ticket {
-        AnyTicket::Moving(_) => {}
-        AnyTicket::Running(ticket) => ticket.spent(),
-        AnyTicket::Held(ticket) => {
-            let inner = ticket.caller().inner;
-            ticket.resumed(inner).spent();
-        }
-        AnyTicket::Host => {}
-    }
-}
-
 impl Hand {
     /// An activity with this ticket, which has begun no statement, and whose entries name all its events.
     pub(crate) fn fresh(
@@ -107,7 +94,7 @@ impl Hand {
             seat: _,
             told: _,
         } = self;
-        spend(ticket);
+        ticket.spent();
         pass
     }
 }

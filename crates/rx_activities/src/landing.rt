@@ -1,6 +1,5 @@
 // The arrival of a task that travels.
 ghost use Rattle.std.specs.Prelude.{◌≡◌};
-ghost use Rattle.rx_finish.specs.Calls.{landing};
 ghost use Rattle.rx_activities.specs.Knowing.{IsNewSeat};
 
 use crate::activity::{Traveller, Turn, activity_with, failed};
@@ -10,32 +9,22 @@ use crate::naming::{LedgerPass, Naming};
 use rx_base::{Batch, PlaceId};
 use rx_book::Pass;
 use rx_check::Program;
+use rx_finish::landing_of;
 use rx_history::Ask;
 use rx_ledger::{Reply, Request};
 use rx_objects::{Hint, LedgerBook, LedgerOp, Mentions};
 use rx_parts::EventItem;
-use rx_rules::Where;
 use rx_ticket::{AnyTicket, InTransit, Ticket};
 use std::alloc::Global;
 use std::snapshot::Snapshot;
 use std::sync::Wait;
-
-// Where a travel ends.
-fn target(place: Where) -> PlaceId
-    ensures { result ≡ landing place }
-{
-    match place {
-        Where::At(p) => p,
-        Where::Travel { from: _, to } => to,
-    }
-}
 
 impl<N: Naming> Traveller<N> {
     /// The place for which it is on its way.
     pub fn target(&self) -> PlaceId
         ensures { result ≡ self.now }
     {
-        target(self.journey.ticket.caller().place)
+        landing_of(self.journey.ticket.caller().place)
     }
 
     /// Its ticket.

@@ -6,7 +6,7 @@ ghost use Rattle.rx_activities.specs.Inside.Sending.{WasSent, WasGranted, WasCou
 ghost use Rattle.rx_activities.specs.Inside.Births.{IsStarted, StartsKnowing, IsWith};
 
 use crate::activity::{Began, activity_with, traveller_of};
-use crate::hand::{Hand, Journey, spend};
+use crate::hand::{Hand, Journey};
 use crate::naming::Naming;
 use rx_base::{Batch, Faults, NoMemory, PlaceId};
 use rx_book::Pass;
@@ -42,7 +42,7 @@ pub struct Child {
 // Spends a ticket, where there is one.
 fn spend_if(ticket: Option<AnyTicket>) {
     match ticket {
-        Some(ticket) => spend(ticket),
+        Some(ticket) => ticket.spent(),
         None => {}
     }
 }
@@ -52,7 +52,7 @@ impl Hand {
     fn keep(&mut self, ticket: AnyTicket, batch: Batch)
         ensures { IsWith self.old.control.value self.old.place self.old.pass self.old.seat ticket batch self.new }
     {
-        spend(std::mem::replace(&mut self.ticket, ticket));
+        std::mem::replace(&mut self.ticket, ticket).spent();
         self.batch = batch;
         self.made = false;
         self.told = Snapshot::of(&self.seat);
@@ -75,12 +75,12 @@ impl Hand {
         ensures { LeavesHand (L.name ledger.now) self.new result }
     {
         if self.control.as_mut().resume(p, faults).is_err() {
-            spend(ticket);
+            ticket.spent();
             spend_if(started);
             return Answer::Failed;
         }
         let Ok(began) = start(alloc, ledger, self.place, &mut self.pass, started, child) else {
-            spend(ticket);
+            ticket.spent();
             return Answer::Failed;
         };
         self.keep(ticket, Batch::open(alloc));
@@ -102,7 +102,7 @@ impl Hand {
     {
         let _ = ledger;
         if self.control.as_mut().census_done(p, places).is_err() {
-            spend(ticket);
+            ticket.spent();
             return Answer::Failed;
         }
         self.keep(ticket, Batch::open(alloc));
@@ -179,7 +179,7 @@ impl Hand {
                 match faults_raised(alloc, outcome.lost, &outcome.thrown) {
                     Ok(faults) => self.go_on(alloc, p, ledger, ticket, faults, None, None),
                     Err(_) => {
-                        spend(ticket);
+                        ticket.spent();
                         Answer::Failed
                     }
                 }
@@ -200,7 +200,7 @@ impl Hand {
             Reply::Ended => Answer::Over,
             Reply::Lost { place: _, at: _ } => Answer::Over,
             Reply::NoMemory { request } => {
-                spend(request.into_ticket());
+                request.into_ticket().spent();
                 Answer::Failed
             }
             Reply::Landed { ticket } => {

@@ -52,15 +52,6 @@ scanned-head bytes tail rest size r is head exact =
       ap (drop (length (natural_text size))) t ∙ drop-append_seam (natural_text size) (10 ∷ rest),
     )
 
--- a text of a number, and a newline after it
-pub head-of : (bytes tail rest : List ℕ) (n end size : ℕ) → bytes ≡ codes "rx10 pair " ++ tail → StandsAt tail 0 (pos n) end → drop end tail ≡ codes "\n" ++ rest → n ≤ 65536 → size ≡ n → IsHead bytes size rest
-head-of bytes tail rest n end size is stands next small same = record {
-  short = omega (arith, small, same);
-  whole =
-      is ∙ ap (λ x. codes "rx10 pair " ++ x) (stands.spelled ∙ ap (λ x. natural_text n ++ x) next ∙ ap (λ k. natural_text k ++ (codes "\n" ++ rest)) (sym same) ∙ sym (append_assoc (natural_text size) (codes "\n") rest))
-      ∙ sym (append_assoc (codes "rx10 pair ") (natural_text size ++ codes "\n") rest);
-}
-
 -- the first line of a pair
 pub head-of-pair : (bytes script trace : List ℕ) → IsPair bytes script trace → IsHead bytes (length script) (script ++ trace)
 head-of-pair bytes script trace pair = record { short = pair.short; whole = pair.whole }

@@ -6,16 +6,8 @@ ghost use Rattle.rx_answers.specs.Lines.{numbered, verdict_line, path_line, span
 
 use itoa::Buffer;
 use rx_base::{Batch, NoMemory, Path};
-use rx_text::put_path;
+use rx_text::{put_path, put_text};
 use rx_verdict::Verdict;
-
-// A text as it is.
-fn put_text(out: &mut Vec<u8>, text: &[u8]) -> Result<(), NoMemory>
-    ensures { OnOk result (out.new.items ≡ out.old.items ++ text.now) }
-{
-    out.extend_from_slice(text)?;
-    Ok(())
-}
 
 // A number that has no sign.
 fn put_size(out: &mut Vec<u8>, n: usize) -> Result<(), NoMemory>

@@ -1,5 +1,5 @@
 -- Numbers.
-use Rattle.std.proofs.Common.{◌≡◌, ℕ, zero, suc, ◌+◌, ◌<◌, ◌≤◌, ◌==◌, true, refl, arith}
+use Rattle.std.proofs.Common.{◌≡◌, ℕ, zero, suc, ◌<◌, ◌==◌, true, refl, arith}
 use Rattle.std.proofs.lemmas.Bool.{eq-eqb}
 
 pub eq-refl : (n : ℕ) → (n == n) ≡ true
@@ -14,7 +14,3 @@ digit-is (suc zero) (suc zero) low_a low_b same = refl
 digit-is (suc (suc a)) b low_a low_b same = absurd (omega arith)
 digit-is zero (suc (suc b)) low_a low_b same = absurd (omega arith)
 digit-is (suc zero) (suc (suc b)) low_a low_b same = absurd (omega arith)
-
--- two summands more on either side
-pub add-one : (a b h r : ℕ) → a + 1 ≤ b → (a + h + r) + 1 ≤ b + h + r
-add-one a b h r le = omega arith

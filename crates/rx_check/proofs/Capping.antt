@@ -3,7 +3,7 @@ use Rattle.std.proofs.Common.{◌≡◌, ℕ, zero, suc, ◌+◌, ◌*◌, ◌<�
 use Rattle.std.proofs.lemmas.Bool.Decides.{nat_tests}
 use Rattle.std.proofs.lemmas.Bool.{lt-ltb, le-ltb}
 use Rattle.rx_syntax.specs.declared.nodes.Stmt.{Stmt as Node}
-use Rattle.rx_syntax.specs.declared.nodes.Stmt.TheVariants.{Set as SetNode, New as NewNode, Get as GetNode, Put as PutNode, Forget as ForgetNode, Census as CensusNode, Print as PrintNode, Throw as ThrowNode, Async as AsyncNode, AtAsync as AtAsyncNode, At as AtNode, Finish as FinishNode, If as IfNode, Repeat as RepeatNode, Try as TryNode}
+use Rattle.rx_syntax.specs.declared.nodes.Stmt.TheVariants.{Async as AsyncNode, AtAsync as AtAsyncNode, At as AtNode, Finish as FinishNode, If as IfNode, Repeat as RepeatNode, Try as TryNode}
 use Rattle.rx_check.specs.Inside.Walk.{cap, work_with}
 
 pub cap-over : (n : ℕ) → 100000 < n → cap n ≡ 100001
@@ -25,9 +25,6 @@ cap-cases n = elim (le-or n) [ inl h ↦ inl (h, cap-within n h) | inr h ↦ inr
 both-over : (m n : ℕ) → 100000 < m → 100000 < n → cap m ≡ cap n
 both-over m n h k = cap-over m h ∙ sym (cap-over n k)
 
-pub cap-most : (n : ℕ) → cap n ≤ 100001
-cap-most n = elim (cap-cases n) [ inl h ↦ omega (arith, h.0, h.1) | inr h ↦ omega (arith, h.1) ]
-
 pub cap-same : (n : ℕ) → n ≤ 100001 → cap n ≡ n
 cap-same n h = elim (cap-cases n) [ inl k ↦ k.1 | inr k ↦ omega (arith, k.0, k.1, h) ]
 
@@ -37,9 +34,6 @@ cap-left a b = elim (cap-cases a) [ inl h ↦ ap (λ x. cap (x + b)) h.1 | inr h
 
 cap-right : (a b : ℕ) → cap (a + cap b) ≡ cap (a + b)
 cap-right a b = elim (cap-cases b) [ inl h ↦ ap (λ x. cap (a + x)) h.1 | inr h ↦ both-over (a + cap b) (a + b) (omega (arith, h.1)) (omega (arith, h.0)) ]
-
-add-three : (w a b : ℕ) → (w + a) + b ≡ w + (a + b)
-add-three w a b = omega arith
 
 pub cap-more : (w a b : ℕ) → cap (w + (a + b)) ≡ cap (cap (w + cap a) + b)
 cap-more w a b = sym (cap-left (w + cap a) b ∙ (ap cap (swap w (cap a) b) ∙ (cap-right (w + b) a ∙ ap cap (back w a b))))
@@ -95,14 +89,6 @@ cap-two m n = cap-right (1 + cap m) n ∙ (ap cap (swap m n) ∙ (cap-right (1 +
 
 -- the work of a statement by the capped work of its blocks
 pub cap-with : (node : Node) (m n : ℕ) → cap (work_with node (cap m) (cap n)) ≡ cap (work_with node m n)
-cap-with (SetNode name value) m n = refl
-cap-with (NewNode name words) m n = refl
-cap-with (GetNode name target index) m n = refl
-cap-with (PutNode target index value) m n = refl
-cap-with (ForgetNode target) m n = refl
-cap-with (CensusNode name) m n = refl
-cap-with (PrintNode value) m n = refl
-cap-with (ThrowNode value) m n = refl
 cap-with (AsyncNode body) m n = cap-right 1 m
 cap-with (AtAsyncNode place body) m n = cap-right 1 m
 cap-with (AtNode place body) m n = cap-right 1 m
@@ -110,3 +96,4 @@ cap-with (FinishNode body) m n = cap-right 1 m
 cap-with (IfNode test first other) m n = cap-max m n
 cap-with (RepeatNode times body) m n = cap-times times m
 cap-with (TryNode body dead_only handler) m n = cap-two m n
+cap-with _ m n = refl

@@ -1,7 +1,7 @@
 -- Whatever a task of a script that meets the rules comes to keeps the rules, and so is defined.
 use Rattle.std.proofs.Common.{◌≡◌, ℕ, ℤ, ◌≤◌, true, cond, List, [], ◌∷◌, Option, None, length, sym, subst}
 use Rattle.std.proofs.lemmas.List.{length-replicate}
-use Rattle.rx_rules.proofs.Common.{GlobalRef, PlaceId, Fault, HeapFull, Stale, Index, Value, Number, Ref, Block, Vars, no_vars, bound, Term, Empty, Raise, Answer, answered, vars_after, Gives, Fine, Fails, Does, Local, Makes, Gets, Puts, Forgets, Opens, Calls, Spawns, Waits, Releases, Prints, Counts, Done, does, granted, replaced, after_it, Tells, brought, vars_told, has}
+use Rattle.rx_rules.proofs.Common.{GlobalRef, PlaceId, Fault, HeapFull, Stale, Index, Value, Number, Ref, Block, Vars, no_vars, bound, Term, Empty, Raise, Answer, answered, vars_after, Gives, Fine, Fails, Does, Makes, Gets, Puts, Forgets, Opens, Calls, Spawns, Waits, Releases, Prints, Counts, does, granted, replaced, after_it, Tells, brought, vars_told, has}
 use Rattle.rx_rules.specs.declared.entries.Act.{Act}
 use Rattle.rx_rules.specs.declared.entries.Act.TheVariants as acts
 use Rattle.rx_rules.specs.declared.events.Cell.{Cell}
@@ -70,15 +70,7 @@ module _ (kinds : ℕ → Option Kind) (q : ℕ) (vars : Vars) (t : Term) where
   tells (Gets name target index) here cell a h k = gets here name target index cell a h k
   tells (Puts target index value) here cell a h k = puts here target index value cell a h k
   tells (Forgets target) here cell a h k = forgets here target cell a h k
-  tells (Local left after) here cell a h k = absurd h
-  tells Opens here cell a h k = absurd h
-  tells (Calls place) here cell a h k = absurd h
-  tells (Spawns place) here cell a h k = absurd h
-  tells (Waits faults) here cell a h k = absurd h
-  tells Releases here cell a h k = absurd h
-  tells (Prints value) here cell a h k = absurd h
-  tells (Counts name) here cell a h k = absurd h
-  tells (Done faults) here cell a h k = absurd h
+  tells _ here cell a h k = absurd h
 
   -- after a granted request
   same : (faults : List Fault) → ((fs : List Fault) → Good kinds q vars (granted fs t)) → Next kinds q vars vars (granted faults t)
@@ -89,11 +81,6 @@ module _ (kinds : ℕ → Option Kind) (q : ℕ) (vars : Vars) (t : Term) where
   counts name here _ h k = absurd h
 
   grants : (d : Does) (here : PlaceId) (act : Act) → Fits here t d act → KeepsTerm kinds q vars t d → Next kinds q vars (vars_told d act vars) (granted (brought act) t)
-  grants (Makes name words) here act h k = absurd h
-  grants (Gets name target index) here act h k = absurd h
-  grants (Puts target index value) here act h k = absurd h
-  grants (Forgets target) here act h k = absurd h
-  grants (Local left after) here act h k = absurd h
   grants Opens here act h k = same (brought act) k
   grants (Calls place) here act h k = same (brought act) k
   grants (Spawns place) here act h k = same (brought act) k
@@ -101,7 +88,7 @@ module _ (kinds : ℕ → Option Kind) (q : ℕ) (vars : Vars) (t : Term) where
   grants Releases here act h k = same (brought act) k
   grants (Prints value) here act h k = same (brought act) k
   grants (Counts name) here act h k = counts name here act h k
-  grants (Done faults) here act h k = absurd h
+  grants _ here act h k = absurd h
 
 -- there are variables for so many names, and the term keeps the rules
 abbrev Sound : (ℕ → Option Kind) → ℕ → Vars → Term → Type 0

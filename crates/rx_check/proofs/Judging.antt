@@ -8,7 +8,7 @@ use Rattle.std.proofs.Math.Bool.{and-false, and-true}
 use Rattle.rx_base.proofs.Numbers.{eq-refl}
 use Rattle.rx_base.proofs.Bools.{or-assoc, and-first, and-second}
 use Rattle.rx_base.proofs.Elements.{length-push}
-use Rattle.rx_rules.proofs.Common.{Stmt, SetTo, New, Get, Put, Forget, Census, Print, Throw, Async, AtAsync, At, Finish, If, Repeat, Try, Block, Nothing, Then, work, has}
+use Rattle.rx_rules.proofs.Common.{Stmt, Async, AtAsync, At, Finish, If, Repeat, Try, Block, Nothing, Then, work, has}
 use Rattle.rx_check.specs.Rules.{Kind, ANumber, AReference, exprs_of, targets_of, assigned, Sight, learned, inside, sights, nodes, same_kind, kind_after, kind_of, is_kind, more_names, names_after, names_of_all, fails_known, gets_other, fails_kind, fails_depth, is_name, fails_count, rule_of, found, first_fault, or_work, verdict}
 use Rattle.rx_check.specs.Inside.Walk.{kind_in, Sofar, differs, gets_other_kind, is_one_more, mistakes_kind, rule_with, seen_with, noted, sight_stepped, and_on, sights_run, cap}
 use Rattle.rx_check.proofs.Statements.{least}
@@ -25,12 +25,6 @@ or_else None o = o
 
 eq-swap : (a b : ℕ) → (a == b) ≡ (b == a)
 eq-swap a b = grind (arith, nat_tests)
-
-if-is : {A : Type 0} (b : Bool) (x y : A) → b ≡ true → (if b then x else y) ≡ x
-if-is b x y e = ap (λ c. if c then x else y) e
-
-if-not : {A : Type 0} (b : Bool) (x y : A) → b ≡ false → (if b then x else y) ≡ y
-if-not b x y e = ap (λ c. if c then x else y) e
 
 -- kinds
 kind-head : (b : Bool) (k : Kind) (o p : Option Kind) → (if b then Some k else or_else o p) ≡ or_else (if b then Some k else o) p
@@ -57,11 +51,6 @@ is-has false k o c e = e
 some-has : (seen : List (ℕ × Kind)) (n : ℕ) → is_some (kind_in seen n) ≡ has n (names_of seen)
 some-has [] n = refl
 some-has (x ∷ xs) n = is-has (x.0 == n) x.1 (kind_in xs n) (has n (names_of xs)) (some-has xs n) ∙ ap (λ b. b || has n (names_of xs)) (eq-swap x.0 n)
-
-or-false-end : (a b : Bool) → (a || (b || false)) ≡ (a || b)
-or-false-end true b = refl
-or-false-end false true = refl
-or-false-end false false = refl
 
 has-append : (n : ℕ) (xs ys : List ℕ) → has n (xs ++ ys) ≡ (has n xs || has n ys)
 has-append n [] ys = refl
@@ -168,20 +157,8 @@ knowing-learned : (a : Option (ℕ × Kind)) (seen : List (ℕ × Kind)) (known 
 knowing-learned None seen known h = h
 knowing-learned (Some x) seen known h = λ n e. learned-one x seen known n h (n == x.0) refl e
 
-after-append : (seen : List (ℕ × Kind)) (xs ys : List Sight) → seen_after seen (xs ++ ys) ≡ seen_after (seen_after seen xs) ys
-after-append seen [] ys = refl
-after-append seen (x ∷ xs) ys = after-append (seen_with (assigned x.stmt) seen) xs ys
-
 mutual
   all-inside : (t : Stmt) (seen : List (ℕ × Kind)) (known : List ℕ) (depth : ℕ) → Knowing seen known → AllKnowing seen (inside known depth t)
-  all-inside (SetTo name value) seen known depth h = tt
-  all-inside (New name words) seen known depth h = tt
-  all-inside (Get name target index) seen known depth h = tt
-  all-inside (Put target index value) seen known depth h = tt
-  all-inside (Forget target) seen known depth h = tt
-  all-inside (Census name) seen known depth h = tt
-  all-inside (Print value) seen known depth h = tt
-  all-inside (Throw value) seen known depth h = tt
   all-inside (Async body) seen known depth h = all-sights body seen known (suc depth) h
   all-inside (AtAsync place body) seen known depth h = all-sights body seen known (suc depth) h
   all-inside (At place body) seen known depth h = all-sights body seen known (suc depth) h
@@ -193,6 +170,7 @@ mutual
   all-inside (Try body dead_only handler) seen known depth h =
       all-append seen (sights known (suc depth) body) (sights known (suc depth) handler) (all-sights body seen known (suc depth) h)
       (all-sights handler (seen_after seen (sights known (suc depth) body)) known (suc depth) (knowing-after (sights known (suc depth) body) seen known h))
+  all-inside _ seen known depth h = tt
 
   all-sights : (b : Block) (seen : List (ℕ × Kind)) (known : List ℕ) (depth : ℕ) → Knowing seen known → AllKnowing seen (sights known depth b)
   all-sights Nothing seen known depth h = tt

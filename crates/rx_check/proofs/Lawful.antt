@@ -16,14 +16,6 @@ pub record Own (kinds : ℕ → Option Kind) (limit : ℕ) (known : List ℕ) (s
 -- so do the statements inside a statement, and those of a block
 abbrev mutual
   pub Inner : (ℕ → Option Kind) → ℕ → List ℕ → Stmt → Type 0
-  Inner kinds limit known (SetTo name value) = Unit {0}
-  Inner kinds limit known (New name words) = Unit {0}
-  Inner kinds limit known (Get name target index) = Unit {0}
-  Inner kinds limit known (Put target index value) = Unit {0}
-  Inner kinds limit known (Forget target) = Unit {0}
-  Inner kinds limit known (Census name) = Unit {0}
-  Inner kinds limit known (Print value) = Unit {0}
-  Inner kinds limit known (Throw value) = Unit {0}
   Inner kinds limit known (Async body) = Lawful kinds limit known body
   Inner kinds limit known (AtAsync place body) = Lawful kinds limit known body
   Inner kinds limit known (At place body) = Lawful kinds limit known body
@@ -31,6 +23,7 @@ abbrev mutual
   Inner kinds limit known (If test first other) = Lawful kinds limit known first × Lawful kinds limit known other
   Inner kinds limit known (Repeat times body) = Lawful kinds limit known body
   Inner kinds limit known (Try body dead_only handler) = Lawful kinds limit known body × Lawful kinds limit known handler
+  Inner kinds limit known _ = Unit {0}
 
   pub Lawful : (ℕ → Option Kind) → ℕ → List ℕ → Block → Type 0
   Lawful kinds limit known Nothing = Unit {0}
@@ -147,18 +140,8 @@ assigned-name : (t : Stmt) (x : ℕ × Kind) → assigned t ≡ Some x → StmtM
 assigned-name (SetTo n e) x a = inl (sym (ap (λ p. p.0) (some-pair (n, ANumber) x a)))
 assigned-name (New n k) x a = sym (ap (λ p. p.0) (some-pair (n, AReference) x a))
 assigned-name (Get n t e) x a = inl (sym (ap (λ p. p.0) (some-pair (n, ANumber) x a)))
-assigned-name (Put t i e) x a = cc
-assigned-name (Forget t) x a = cc
 assigned-name (Census n) x a = sym (ap (λ p. p.0) (some-pair (n, ANumber) x a))
-assigned-name (Print e) x a = cc
-assigned-name (Throw e) x a = cc
-assigned-name (Async b) x a = cc
-assigned-name (AtAsync e b) x a = cc
-assigned-name (At e b) x a = cc
-assigned-name (Finish b) x a = cc
-assigned-name (If e b c) x a = cc
-assigned-name (Repeat n b) x a = cc
-assigned-name (Try b d c) x a = cc
+assigned-name _ x a = cc
 
 own : (script : List Sight) (limit : ℕ) (s : Sight) → Kinded (kind_of script) s.known → rule_of script s ≡ None → ((n : ℕ) → StmtMentions n s.stmt → n < limit) → Own (kind_of script) limit s.known s.stmt
 own script limit s kinded h names =
@@ -190,14 +173,6 @@ learn kinds limit known t (Some x) e h k = λ n m.
 -- what passes the rules is lawful
 mutual
   inner : (script : List Sight) (limit : ℕ) (known : List ℕ) (depth : ℕ) (t : Stmt) → Kinded (kind_of script) known → AllPass script (inside known depth t) → ((n : ℕ) → StmtMentions n t → n < limit) → Inner (kind_of script) limit known t
-  inner script limit known depth (SetTo n e) k h m = tt
-  inner script limit known depth (New n w) k h m = tt
-  inner script limit known depth (Get n t e) k h m = tt
-  inner script limit known depth (Put t i e) k h m = tt
-  inner script limit known depth (Forget t) k h m = tt
-  inner script limit known depth (Census n) k h m = tt
-  inner script limit known depth (Print e) k h m = tt
-  inner script limit known depth (Throw e) k h m = tt
   inner script limit known depth (Async b) k h m = lawful script limit known (suc depth) b k h m
   inner script limit known depth (AtAsync e b) k h m = lawful script limit known (suc depth) b k h (λ n u. m n (inr u))
   inner script limit known depth (At e b) k h m = lawful script limit known (suc depth) b k h (λ n u. m n (inr u))
@@ -211,6 +186,7 @@ mutual
     lawful script limit known (suc depth) a k (pass-left script (sights known (suc depth) a) (sights known (suc depth) b) h) (λ n u. m n (inl u)),
     lawful script limit known (suc depth) b k (pass-right script (sights known (suc depth) a) (sights known (suc depth) b) h) (λ n u. m n (inr u)),
   )
+  inner script limit known depth _ k h m = tt
 
   lawful : (script : List Sight) (limit : ℕ) (known : List ℕ) (depth : ℕ) (b : Block) → Kinded (kind_of script) known → AllPass script (sights known depth b) → ((n : ℕ) → Mentions n b → n < limit) → Lawful (kind_of script) limit known b
   lawful script limit known depth Nothing k h m = tt

@@ -162,10 +162,7 @@ own-defined kinds q vars known stmt wide a o =
     }
 
 pub safe-defined : (kinds : ℕ → Option Kind) (q : ℕ) (vars : Vars) (known : List ℕ) (t : Term) (stmt : Stmt) → q ≤ length vars.values → Agrees kinds vars known → Safe kinds q vars known t → beginning t ≡ Some stmt → IsDefined vars stmt
-safe-defined kinds q vars known Empty stmt wide a h e = cc
-safe-defined kinds q vars known (Raise faults) stmt wide a h e = cc
 safe-defined kinds q vars known (Run s x rest) stmt wide a h e = let same : s ≡ stmt = cc in subst (IsDefined vars) same (own-defined kinds q vars known s wide a h.0)
-safe-defined kinds q vars known (Turns body x k times rest) stmt wide a h e = cc
 safe-defined kinds q vars known (Trying inside dead_only handler x rest) stmt wide a h e = safe-defined kinds q vars h.0.0 inside stmt wide h.0.1 h.0.2 e
 safe-defined kinds q vars known (Body inside rest) stmt wide a h e = safe-defined kinds q vars h.0.0 inside stmt wide h.0.1 h.0.2 e
-safe-defined kinds q vars known (Held rest) stmt wide a h e = cc
+safe-defined kinds q vars known _ stmt wide a h e = cc

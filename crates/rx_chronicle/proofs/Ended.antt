@@ -1,5 +1,5 @@
 -- After the root's release no task is left, so none can act, and the root is not released twice.
-use Rattle.std.proofs.Common.{◌≡◌, Bool, true, false, List, [], ◌∷◌, ◌++◌, Some, None, refl, ap, ◌∙◌, sym}
+use Rattle.std.proofs.Common.{◌≡◌, Bool, true, false, List, [], ◌∷◌, ◌++◌, Some, None, ap, ◌∙◌, sym}
 use Rattle.rx_rules.proofs.Common.{TaskId, is_task, AllowedAct, opening, tree_of, opens, Given, Folds, NoRoot, EndsWithRoot}
 use Rattle.rx_rules.specs.declared.tasks.Task.{Task}
 use Rattle.rx_rules.specs.declared.entries.Act.{Act}
@@ -23,10 +23,6 @@ root_or_none (Step t act batch ∷ es) e n = root_or_none es e n
 root_or_none (Root lost masked thrown ∷ es) e n = n
 root_or_none (Death d ∷ es) e n = root_or_none es e n
 root_or_none (Join d ∷ es) e n = root_or_none es e n
-
-pub not_ended : (e : Bool) (es : List Entry) → Ending e es → NoRoot es → e ≡ false
-not_ended false es h n = refl
-not_ended true es h n = absurd (root_or_none es h n)
 
 -- an entry that does not release the root leaves it unreleased
 pub stays_open : (e : Bool) (es : List Entry) (x : Entry) → Ending e es → NoRoot es → NoRoot (x ∷ []) → Ending e (es ++ x ∷ [])

@@ -1,6 +1,6 @@
 -- Answers of the store and grants of the ledger.
 use Rattle.std.proofs.Common.{◌≡◌, ℕ, suc, List, [], ◌∷◌, length, Option, Some, None, Bool, refl, ap, ◌∙◌, Ok, Err}
-use Rattle.rx_rules.proofs.Common.{Fault, Value, Expr, Block, Stmt, SetTo, New, Get, Put, Forget, Census, Print, Throw, Async, AtAsync, At, Finish, If, Repeat, Try, Then, Term, Empty, Run, Raise, Turns as TurnsTerm, Trying, Body as BodyTerm, Held as HeldTerm, Fails, answered, answer_of, replaced, after_it, receives, stmt_receives, granted, stmt_granted, or_raise, at}
+use Rattle.rx_rules.proofs.Common.{Fault, Value, Expr, Block, Stmt, SetTo, At, Finish, Then, Term, Empty, Run, Raise, Turns as TurnsTerm, Trying, Body as BodyTerm, Held as HeldTerm, Fails, answered, answer_of, replaced, after_it, receives, stmt_receives, granted, stmt_granted, or_raise, at}
 use Rattle.rx_syntax.specs.declared.nodes.ExprId.{ExprId}
 use Rattle.rx_syntax.specs.declared.nodes.BlockId.{BlockId}
 use Rattle.rx_syntax.specs.declared.nodes.Stmt.TheVariants.{Finish as FinishNode, At as AtNode}
@@ -41,20 +41,7 @@ goes-front v o stmt more x i gs =
 
 opened-term : (stmt : Stmt) (y : List ℕ) (more : Block) (x : List ℕ) (k : ℕ) (gs : List Level) → wrap (stmt_granted stmt y (seq (More more x k ∷ gs))) gs ≡ term_of None (levels_opened stmt y (More more x k ∷ gs))
 opened-term (SetTo name value) y more x k gs = refl
-opened-term (New name words) y more x k gs = refl
-opened-term (Get name target index) y more x k gs = refl
-opened-term (Put target index value) y more x k gs = refl
-opened-term (Forget target) y more x k gs = refl
-opened-term (Census name) y more x k gs = refl
-opened-term (Print value) y more x k gs = refl
-opened-term (Throw value) y more x k gs = refl
-opened-term (Async body) y more x k gs = refl
-opened-term (AtAsync place body) y more x k gs = refl
-opened-term (At place body) y more x k gs = refl
-opened-term (Finish body) y more x k gs = refl
-opened-term (If test first other) y more x k gs = refl
-opened-term (Repeat times body) y more x k gs = refl
-opened-term (Try body dead_only handler) y more x k gs = refl
+opened-term _ y more x k gs = refl
 
 pub granted-front : (faults : List Fault) (stmt : Stmt) (more : Block) (x : List ℕ) (i : ℕ) (gs : List Level) → granted faults (term_of None (More (Then stmt more) x i ∷ gs)) ≡ term_of None (levels_opened stmt (at x i) (More more x (suc i) ∷ gs))
 granted-front faults stmt more x i gs =

@@ -1,7 +1,8 @@
 -- What a control carries, and where no statement is begun.
-use Rattle.std.proofs.Common.{◌≡◌, ℕ, ℤ, suc, List, [], ◌∷◌, ◌++◌, Option, Some, None, Bool, true, false, cond, ◌==◌, refl, ap, sym, ◌∙◌, subst, Result, Ok, Err, unwrap_or, option_to_list}
-use Rattle.std.proofs.lemmas.Option.{same_Some}
-use Rattle.rx_rules.proofs.Common.{Fault, Number, Thrown, WrongPlace, Block, Stmt, SetTo, New, Get, Put, Forget, Census, Print, Throw, Async, AtAsync, At, Finish, If, Repeat, Try, Nothing, Then, Vars, Term, Empty, Run, Raise, Turns as TurnsTerm, Trying, Body as BodyTerm, Held as HeldTerm, Does, Local, Makes, Gets, Puts, Forgets, Opens, Calls, Spawns, Waits, Releases, Prints, Counts, Done, does, stmt_does, begins, granted, within, replaced, with_number, with_place, eval, target_of, ref_in, value_of, raise, at, bound, items, is_zero}
+use Rattle.std.proofs.Common.{◌≡◌, ℕ, suc, List, [], ◌∷◌, ◌++◌, Option, Some, None, Bool, refl, ap, sym, ◌∙◌, subst, unwrap_or, option_to_list}
+use Rattle.std.proofs.lemmas.Option.{same_Some, none-some}
+use Rattle.rx_rules.proofs.Common.{Fault, Block, Stmt, Nothing, Then, Vars, Term, Empty, Run, Raise, Turns as TurnsTerm, Trying, Body as BodyTerm, Held as HeldTerm, Does, Local, Waits, does, stmt_does, begins, granted, replaced, at}
+use Rattle.rx_rules.proofs.StepRules.{StepRule, GoesOn, empty, raised, asks_in_try, waits, waits_raised, asks_in_body, rule_of, granted_inside}
 use Rattle.rx_history.specs.Next.{carried}
 use Rattle.rx_control.specs.Levels.{Level, More, Again, Tried, Inside, Waiting, Settled, seq, term_of}
 use Rattle.rx_syntax.specs.declared.nodes.BlockId.{BlockId}
@@ -11,62 +12,26 @@ use Rattle.rx_control.specs.declared.frame.Frame.TheVariants.{Turns, Try as TryF
 use Rattle.rx_control.specs.declared.control.Control.{Control}
 use Rattle.rx_control.specs.Stands.{path_of, StandsFor, FramesStand}
 use Rattle.rx_control.specs.Inside.Front.{lifted, AtStatement}
-use Rattle.rx_control.proofs.Standing.{at-top, at-end, at-turns, at-tried, at-inside, at-waiting}
+use Rattle.rx_control.proofs.Standing.{at-top, at-turns, at-tried, at-inside, at-waiting}
 use Rattle.rx_control.proofs.Wrapping.{begins-wrap, replaced-wrap}
 use Rattle.rx_control.proofs.Front.{does-statement, does-turns, does-tried, does-inside, does-waiting, does-raised-tried, does-raised-inside}
 
 carried-lifted : (s : List Level) (d : Does) → carried (lifted s d) ≡ carried d
 carried-lifted s (Local left vars) = refl
-carried-lifted s (Makes name words) = refl
-carried-lifted s (Gets name target index) = refl
-carried-lifted s (Puts target index value) = refl
-carried-lifted s (Forgets target) = refl
-carried-lifted s Opens = refl
-carried-lifted s (Calls place) = refl
-carried-lifted s (Spawns place) = refl
-carried-lifted s (Waits faults) = refl
-carried-lifted s Releases = refl
-carried-lifted s (Prints value) = refl
-carried-lifted s (Counts name) = refl
-carried-lifted s (Done faults) = refl
+carried-lifted s _ = refl
 
-on-number : (vars : Vars) (o : Option ℤ) (f : ℤ → Does) → ((z : ℤ) → carried (f z) ≡ None) → carried (with_number vars o f) ≡ None
-on-number vars None f h = refl
-on-number vars (Some z) f h = h z
+-- what carries a list begins no statement
+carries_by : {vars : Vars} {here : ℕ} {t : Term} {d : Does} → StepRule vars here t d → (faults : List Fault) → carried d ≡ Some faults → begins t ≡ None
+carries_by empty faults e = refl
+carries_by raised faults e = refl
+carries_by waits faults e = refl
+carries_by waits_raised faults e = refl
+carries_by (asks_in_try g a s) faults e = carries_by s faults e
+carries_by (asks_in_body g a s) faults e = carries_by s faults e
+carries_by _ faults e = absurd (none-some faults e)
 
-on-place : (vars : Vars) (o : Result ℕ Fault) (f : ℕ → Does) → ((p : ℕ) → carried (f p) ≡ None) → carried (with_place vars o f) ≡ None
-on-place vars (Err fault) f h = refl
-on-place vars (Ok p) f h = h p
-
-on-test : (b : Bool) (d e : Does) → carried d ≡ None → carried e ≡ None → carried (cond b d e) ≡ None
-on-test true d e h k = h
-on-test false d e h k = k
-
-stmt-carried : (vars : Vars) (here : ℕ) (stmt : Stmt) (x : List ℕ) (rest : Term) → carried (stmt_does vars here stmt x rest) ≡ None
-stmt-carried vars here (SetTo name value) x rest = on-number vars (eval vars here value) (λ z. Local rest (bound name (Number z) vars)) (λ z. refl)
-stmt-carried vars here (New name words) x rest = refl
-stmt-carried vars here (Get name target index) x rest =
-    let r = ref_in (value_of vars target) in
-    on-number vars (eval vars here index) (λ k. cond (r.home.0 == here) (Gets name r k) (Local (raise WrongPlace) vars))
-    (λ k. on-test (r.home.0 == here) (Gets name r k) (Local (raise WrongPlace) vars) refl refl)
-stmt-carried vars here (Put target index value) x rest =
-    let r = ref_in (value_of vars target) in
-    on-number vars (eval vars here index) (λ k. with_number vars (eval vars here value) (λ z. cond (r.home.0 == here) (Puts r k z) (Local (raise WrongPlace) vars)))
-    (λ k. on-number vars (eval vars here value) (λ z. cond (r.home.0 == here) (Puts r k z) (Local (raise WrongPlace) vars))
-    (λ z. on-test (r.home.0 == here) (Puts r k z) (Local (raise WrongPlace) vars) refl refl))
-stmt-carried vars here (Forget target) x rest =
-    let r = ref_in (value_of vars target) in on-test (r.home.0 == here) (Forgets r) (Local (raise WrongPlace) vars) refl refl
-stmt-carried vars here (Census name) x rest = refl
-stmt-carried vars here (Print value) x rest = on-number vars (eval vars here value) Prints (λ z. refl)
-stmt-carried vars here (Throw value) x rest = on-number vars (eval vars here value) (λ z. Local (raise (Thrown z)) vars) (λ z. refl)
-stmt-carried vars here (Async body) x rest = refl
-stmt-carried vars here (AtAsync place body) x rest = on-place vars (target_of (eval vars here place) vars.places) Spawns (λ p. refl)
-stmt-carried vars here (At place body) x rest = on-place vars (target_of (eval vars here place) vars.places) Calls (λ p. refl)
-stmt-carried vars here (Finish body) x rest = refl
-stmt-carried vars here (If test first other) x rest =
-    on-number vars (eval vars here test) (λ z. Local (cond (is_zero z) (items other (at x 1) rest) (items first (at x 0) rest)) vars) (λ z. refl)
-stmt-carried vars here (Repeat times body) x rest = refl
-stmt-carried vars here (Try body dead_only handler) x rest = refl
+stmt-carries : (vars : Vars) (here : ℕ) (stmt : Stmt) (x : List ℕ) (rest : Term) (faults : List Fault) → carried (stmt_does vars here stmt x rest) ≡ Some faults → ⊥
+stmt-carries vars here stmt x rest faults e = none-some x (sym (carries_by (rule_of vars here (Run stmt x rest)) faults e))
 
 -- after the list is handed out
 pub record Took (r : Option (List Fault)) (levels : List Level) (faults : List Fault) : Type 0 where
@@ -78,7 +43,8 @@ pub took : (vars : Vars) (here : ℕ) (faults : List Fault) (r : Option (List Fa
 took vars here faults None [] h e = record { list = same_Some _ _ e; settled = tt; is = refl }
 took vars here faults None (More Nothing x i ∷ gs) h e = absurd h
 took vars here faults None (More (Then stmt more) x i ∷ gs) h e =
-    let q : None ≡ Some faults = sym (ap carried (does-statement vars here stmt more x i gs) ∙ carried-lifted gs _ ∙ stmt-carried vars here stmt _ _) ∙ e in absurd (cc)
+    let rest : Term = seq (More more x (suc i) ∷ gs) in
+    absurd (stmt-carries vars here stmt (at x i) rest faults (sym (ap carried (does-statement vars here stmt more x i gs) ∙ carried-lifted gs (stmt_does vars here stmt (at x i) rest)) ∙ e))
 took vars here faults None (Again body x k times ∷ gs) h e =
     let q : None ≡ Some faults = sym (ap carried (does-turns vars here body x k times gs)) ∙ e in absurd (cc)
 took vars here faults None (Tried d b x ∷ gs) h e =
@@ -139,9 +105,6 @@ waiting-begin s c t below e h r =
 pub raised-begin : (s : Shape) (c : Control) (t : Term) (faults : List Fault) → StandsFor s c t → c.raised ≡ Some faults → begins t ≡ None
 raised-begin s c t faults h r = ap begins (h.is ∙ ap (λ r. term_of r h.levels) r) ∙ raised-begins faults h.levels
 
-pub end-begin : (s : Shape) (c : Control) (t : Term) → c.frames.items ≡ [] → StandsFor s c t → c.raised ≡ None → begins t ≡ None
-end-begin s c t e h r = ap begins (at-end s c t e h ∙ ap (λ r. term_of r []) r)
-
 -- a statement at the front begins its path
 pub statement-begin : (s : Shape) (c : Control) (t : Term) (below : List Frame) (block : BlockId) (next : ℕ) (part : Option ℕ) → (a : AtStatement s c t below block next part) → begins t ≡ Some (at (path_of c.base below ++ option_to_list part) next)
 statement-begin s c t below block next part a = ap begins a.is ∙ stmt-begins a.stmt a.more (path_of c.base below ++ option_to_list part) next a.others
@@ -160,53 +123,19 @@ took-stands s c d t here faults b f r h k =
     let R : List Frame → Type 0 = λ fs. FramesStand s c.base fs h.levels in
     record { levels = h.levels; stands = subst Q (sym b) (subst R (sym f) h.stands); settled = subst P (sym r) o.settled; is = ap (λ t. replaced t Empty) h.is ∙ sym o.is ∙ sym (ap (λ r. term_of r h.levels) r) }
 
-waits-within : (f : Term → Term) (d : Does) (faults : List Fault) → within f d ≡ Waits faults → d ≡ Waits faults
-waits-within f (Local left vars) faults h = absurd (no-wait (ap carried-waits h))
-  where
-    carried-waits : Does → Bool
-    carried-waits (Local l v) = false
-    carried-waits other = true
+abbrev IsWait : Does → Type 0
+IsWait (Waits faults) = Unit {0}
+IsWait _ = ⊥
 
-    no-wait : false ≡ true → ⊥
-    no-wait e = cc
-waits-within f (Makes name words) faults h = h
-waits-within f (Gets name target index) faults h = h
-waits-within f (Puts target index value) faults h = h
-waits-within f (Forgets target) faults h = h
-waits-within f Opens faults h = h
-waits-within f (Calls place) faults h = h
-waits-within f (Spawns place) faults h = h
-waits-within f (Waits list) faults h = h
-waits-within f Releases faults h = h
-waits-within f (Prints value) faults h = h
-waits-within f (Counts name) faults h = h
-waits-within f (Done list) faults h = h
-
-no-statement : (vars : Vars) (here : ℕ) (stmt : Stmt) (x : List ℕ) (rest : Term) (faults : List Fault) → stmt_does vars here stmt x rest ≡ Waits faults → ⊥
-no-statement vars here stmt x rest faults h =
-    let q : None ≡ Some faults = sym (stmt-carried vars here stmt x rest) ∙ ap carried h in cc
-
-no-turn : (t : Term) (vars : Vars) (faults : List Fault) → Local t vars ≡ Waits faults → ⊥
-no-turn t vars faults h = let q : None ≡ Some faults = ap carried h in cc
+waits_by : {vars : Vars} {here : ℕ} {t : Term} {d : Does} → StepRule vars here t d → (list : List Fault) → IsWait d → GoesOn (replaced t Empty) × (granted list (replaced t Empty) ≡ granted list t)
+waits_by waits list w = (tt, refl)
+waits_by waits_raised list w = (tt, refl)
+waits_by (asks_in_try {dead_only = o} {handler = b} {x = x} {rest = rest} g a s) list w = (tt, ap (λ v. Trying v o b x rest) (waits_by s list w).1)
+waits_by (asks_in_body {inside = inside} {rest = rest} g a s) list w =
+    let k = waits_by s list w in
+    (tt, sym (granted_inside list (replaced inside Empty) rest k.0) ∙ ap (λ v. BodyTerm v rest) k.1 ∙ granted_inside list inside rest g)
+waits_by _ list w = absurd w
 
 -- a wait grants the same without the list that it carries
 pub wait-grants : (vars : Vars) (here : ℕ) (t : Term) (faults list : List Fault) → does vars here t ≡ Waits faults → granted list (replaced t Empty) ≡ granted list t
-wait-grants vars here Empty faults list h = refl
-wait-grants vars here (Raise fs) faults list h = cc
-wait-grants vars here (Run stmt x rest) faults list h = absurd (no-statement vars here stmt x rest faults h)
-wait-grants vars here (TurnsTerm b x k n rest) faults list h = absurd (no-turn _ _ faults h)
-wait-grants vars here (Trying Empty d b x rest) faults list h = absurd (no-turn _ _ faults h)
-wait-grants vars here (Trying (Raise fs) d b x rest) faults list h = absurd (no-turn _ _ faults h)
-wait-grants vars here (Trying (Run s y m) d b x rest) faults list h = absurd (no-statement vars here s y m faults (waits-within _ _ faults h))
-wait-grants vars here (Trying (TurnsTerm c y k n m) d b x rest) faults list h = absurd (no-turn _ _ faults h)
-wait-grants vars here (Trying (Trying u e c y m) d b x rest) faults list h = ap (λ v. Trying v d b x rest) (wait-grants vars here (Trying u e c y m) faults list (waits-within _ _ faults h))
-wait-grants vars here (Trying (BodyTerm u m) d b x rest) faults list h = ap (λ v. Trying v d b x rest) (wait-grants vars here (BodyTerm u m) faults list (waits-within _ _ faults h))
-wait-grants vars here (Trying (HeldTerm m) d b x rest) faults list h = cc
-wait-grants vars here (BodyTerm Empty rest) faults list h = refl
-wait-grants vars here (BodyTerm (Raise fs) rest) faults list h = refl
-wait-grants vars here (BodyTerm (Run s y m) rest) faults list h = absurd (no-statement vars here s y m faults (waits-within _ _ faults h))
-wait-grants vars here (BodyTerm (TurnsTerm c y k n m) rest) faults list h = absurd (no-turn _ _ faults h)
-wait-grants vars here (BodyTerm (Trying u e c y m) rest) faults list h = ap (λ v. BodyTerm v rest) (wait-grants vars here (Trying u e c y m) faults list (waits-within _ _ faults h))
-wait-grants vars here (BodyTerm (BodyTerm u m) rest) faults list h = ap (λ v. BodyTerm v rest) (wait-grants vars here (BodyTerm u m) faults list (waits-within _ _ faults h))
-wait-grants vars here (BodyTerm (HeldTerm m) rest) faults list h = cc
-wait-grants vars here (HeldTerm rest) faults list h = cc
+wait-grants vars here t faults list h = (waits_by (rule_of vars here t) list (subst (λ (d : Does). IsWait d) (sym h) tt)).1

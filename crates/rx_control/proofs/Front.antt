@@ -2,7 +2,7 @@
 use Rattle.std.proofs.Common.{◌≡◌, ℕ, suc, ◌+◌, ◌-◌, ◌<◌, List, [], ◌∷◌, ◌++◌, length, drop, Option, Some, None, Bool, cond, refl, ap, sym, ◌∙◌, subst, append_assoc, arith, length-drop, add-one, nat_le, slice_get, option_to_list, IfSome}
 use Rattle.std.proofs.lemmas.List.{at_drop_more}
 use Rattle.std.proofs.lemmas.Option.{slice_get_within, get_or_from_slice_get}
-use Rattle.rx_rules.proofs.Common.{Fault, Block, Stmt, Nothing, Then, Vars, Empty, Run, Raise, Turns, Trying, Body as BodyTerm, Held as HeldTerm, Does, Local, Makes, Gets, Puts, Forgets, Opens, Calls, Spawns, Waits, Releases, Prints, Counts, Done, does, stmt_does, items, at, catches}
+use Rattle.rx_rules.proofs.Common.{Fault, Block, Stmt, Nothing, Then, Vars, Empty, Run, Raise, Turns, Trying, Body as BodyTerm, Held as HeldTerm, Does, Local, Waits, Releases, does, stmt_does, items, at, catches}
 use Rattle.rx_syntax.specs.declared.nodes.StmtId.{StmtId}
 use Rattle.rx_syntax.specs.declared.nodes.BlockId.{BlockId}
 use Rattle.rx_syntax.specs.declared.nodes.Stmt.{Stmt as Node}
@@ -18,18 +18,7 @@ use Rattle.rx_control.proofs.Moves.{top-stands, path-snoc}
 
 pub next-lifted : (s : List Level) (d : Does) → next_of (lifted s d) ≡ next_of d
 next-lifted s (Local left vars) = refl
-next-lifted s (Makes name words) = refl
-next-lifted s (Gets name target index) = refl
-next-lifted s (Puts target index value) = refl
-next-lifted s (Forgets target) = refl
-next-lifted s Opens = refl
-next-lifted s (Calls place) = refl
-next-lifted s (Spawns place) = refl
-next-lifted s (Waits faults) = refl
-next-lifted s Releases = refl
-next-lifted s (Prints value) = refl
-next-lifted s (Counts name) = refl
-next-lifted s (Done faults) = refl
+next-lifted s _ = refl
 
 -- the statement at the front of a stack
 pub record Statement (s : Shape) (base : List ℕ) (below : List Frame) (block : BlockId) (next : ℕ) (part : Option ℕ) (levels : List Level) : Type 0 where
@@ -79,16 +68,6 @@ first-id s n ids stmt more h = by-list (drop n ids) refl h
     by-list : (l : List StmtId) → l ≡ drop n ids → ListStands s l (Then stmt more) → n < length ids
     by-list [] q k = absurd k
     by-list (i ∷ l) q k = omega (arith, ap length q, length-drop n ids)
-
-pub awaits-within : (s : Shape) (block : BlockId) (next : ℕ) (stmt : Stmt) (more : Block) (n : ℕ) → PositionStands s block next stmt more → IfSome (slice_get s.blocks block.0) (λ ids. n ≡ length ids) → next < n
-awaits-within s block next stmt more n a h =
-    let l : n ≡ length a.ids = let P : Option (List StmtId) → Type 0 = λ o. IfSome o (λ ids. n ≡ length ids) in subst P a.block_is h in
-    omega (arith, l, first-id s next a.ids stmt more a.left)
-
-pub awaits-item : (s : Shape) (block : BlockId) (next : ℕ) (stmt : Stmt) (more : Block) → PositionStands s block next stmt more → IfSome (slice_get s.blocks block.0) (λ ids. next < length ids)
-awaits-item s block next stmt more a =
-    let P : Option (List StmtId) → Type 0 = λ o. IfSome o (λ ids. next < length ids) in
-    subst P (sym a.block_is) (first-id s next a.ids stmt more a.left)
 
 -- the statement at a position, and the position after it
 pub record Taken (s : Shape) (block : BlockId) (next : ℕ) (stmt : Stmt) (more : Block) (id : StmtId) : Type 0 where

@@ -1,18 +1,18 @@
 -- What the term of a control does, by its innermost frame.
 use Rattle.std.proofs.Common.{◌≡◌, ℕ, suc, List, [], ◌∷◌, ◌++◌, Option, Some, None, Bool, cond, refl, ap, sym, ◌∙◌, subst, nat_le, option_to_list}
-use Rattle.rx_rules.proofs.Common.{Fault, Vars, Term, Raise, Turns as TurnsTerm, Does, Local, Waits, Releases, Done, does, stmt_does, items, at, catches}
+use Rattle.rx_rules.proofs.Common.{Fault, Vars, Term, Raise, Turns as TurnsTerm, Does, Local, Waits, Releases, does, stmt_does, items, at, catches}
 use Rattle.rx_syntax.specs.declared.nodes.BlockId.{BlockId}
 use Rattle.rx_syntax.specs.Shape.{Shape}
-use Rattle.rx_control.specs.Levels.{More, seq, wrap, term_of}
+use Rattle.rx_control.specs.Levels.{More, seq, wrap}
 use Rattle.rx_control.specs.declared.frame.Frame.{Frame}
 use Rattle.rx_control.specs.declared.frame.Frame.TheVariants.{Turns, Try, Body, Held}
 use Rattle.rx_control.specs.declared.control.Control.{Control}
-use Rattle.rx_control.specs.Stands.{path_of, StandsFor, AfterLocalStep}
+use Rattle.rx_control.specs.Stands.{path_of, AfterLocalStep}
 use Rattle.rx_history.specs.Next.{next_of}
 use Rattle.rx_history.specs.declared.step.Next.TheVariants.{Local as LocalStep}
 use Rattle.rx_control.specs.Inside.Front.{lifted, AtStatement}
 use Rattle.rx_control.proofs.Front.{does-statement, does-turns, does-tried, does-inside, does-waiting, does-raised-tried, does-raised-inside}
-use Rattle.rx_control.proofs.Standing.{AtTop, calm-turns, at-end, at-turns, at-tried, at-inside, at-waiting}
+use Rattle.rx_control.proofs.Standing.{AtTop, calm-turns, at-turns, at-tried, at-inside, at-waiting}
 
 pub stmt-does : (s : Shape) (c : Control) (t : Term) (below : List Frame) (block : BlockId) (next : ℕ) (part : Option ℕ) (a : AtStatement s c t below block next part) (vars : Vars) (here : ℕ) → does vars here t ≡ lifted a.others (stmt_does vars here a.stmt (at (path_of c.base below ++ option_to_list part) next) (seq (More a.more (path_of c.base below ++ option_to_list part) (suc next) ∷ a.others)))
 stmt-does s c t below block next part a vars here =
@@ -41,14 +41,6 @@ raised-inside-does s c t below faults r a vars here =
 pub waiting-does : (s : Shape) (c : Control) (t : Term) (below : List Frame) → c.raised ≡ None → (a : AtTop s c t below Held) (vars : Vars) (here : ℕ) → does vars here t ≡ Releases
 waiting-does s c t below r a vars here =
     ap (does vars here) (at-waiting s c t below r a) ∙ does-waiting vars here a.others
-
-pub end-does : (s : Shape) (c : Control) (t : Term) → c.raised ≡ None → c.frames.items ≡ [] → StandsFor s c t → (vars : Vars) (here : ℕ) → does vars here t ≡ Done []
-end-does s c t r e h vars here =
-    ap (does vars here) (at-end s c t e h ∙ ap (λ r. term_of r []) r)
-
-pub raised-end-does : (s : Shape) (c : Control) (t : Term) (faults : List Fault) → c.raised ≡ Some faults → c.frames.items ≡ [] → StandsFor s c t → (vars : Vars) (here : ℕ) → does vars here t ≡ Done faults
-raised-end-does s c t faults r e h vars here =
-    ap (does vars here) (at-end s c t e h ∙ ap (λ r. term_of r []) r)
 
 -- at the end of a finish's body the ledger is asked
 pub inside-leaves : (s : Shape) (c d : Control) (t : Term) (below : List Frame) (a : AtTop s c t below Body) (vars : Vars) (here : ℕ) → AfterLocalStep s d (does vars here t)

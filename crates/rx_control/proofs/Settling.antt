@@ -1,5 +1,5 @@
 -- Taking off what is over.
-use Rattle.std.proofs.Common.{◌≡◌, ℕ, ◌-◌, ◌<◌, ◌≤◌, List, [], ◌∷◌, ◌++◌, length, drop, take, Option, Some, None, true, false, refl, ap, sym, ◌∙◌, subst, arith, length-drop, length-append, slice_get, option_to_list, IfSome, nat_le}
+use Rattle.std.proofs.Common.{◌≡◌, ℕ, ◌-◌, ◌<◌, ◌≤◌, List, [], ◌∷◌, ◌++◌, length, drop, Option, Some, None, true, false, refl, ap, sym, ◌∙◌, subst, arith, length-drop, slice_get, option_to_list, IfSome, nat_le}
 use Rattle.std.proofs.lemmas.Bool.Decides.{nat_tests}
 use Rattle.rx_rules.proofs.Common.{Fault, Block, Nothing, Then}
 use Rattle.rx_control.specs.Levels.{Level, More, Again, Tried, Inside, Waiting, Settled, term_of}
@@ -12,24 +12,11 @@ use Rattle.rx_control.specs.Stands.{FrameStands, FramesStand}
 use Rattle.rx_control.specs.Inside.Front.{LevelIsOver, IsCatch, SettlesTo}
 use Rattle.rx_control.proofs.Moves.{top-stands, empty-stands}
 
-pub popped : {A : Type 0} (old new below : List A) (f : A) → new ≡ take (length old - 1) old → old ≡ below ++ f ∷ [] → new ≡ below
-popped old new below f h e = h ∙ ap (λ xs. take (length xs - 1) xs) e ∙ ap (λ n. take n (below ++ f ∷ [])) (last below f) ∙ front below (f ∷ [])
-  where
-    last : {A : Type 0} (below : List A) (f : A) → length (below ++ f ∷ []) - 1 ≡ length below
-    last below f = let e = length-append below (f ∷ []) in omega (arith, e)
-
-    front : {A : Type 0} (xs ys : List A) → take (length xs) (xs ++ ys) ≡ xs
-    front [] ys = refl
-    front (x ∷ xs) ys = ap (λ zs. x ∷ zs) (front xs ys)
-
 -- the frames stand for the term of these levels
 pub record Leads (s : Shape) (base : List ℕ) (frames : List Frame) (raised : Option (List Fault)) (levels : List Level) : Type 0 where
   pub levels_left : List Level
   pub stands : FramesStand s base frames levels_left
   pub is : term_of raised levels_left ≡ term_of raised levels
-
-pub leads-start : (s : Shape) (base : List ℕ) (frames : List Frame) (raised : Option (List Fault)) (levels : List Level) → FramesStand s base frames levels → Leads s base frames raised levels
-leads-start s base frames raised levels h = record { levels_left = levels; stands = h; is = refl }
 
 none-left : (s : Shape) (n next : ℕ) (ids : List StmtId) (left : Block) (x : List ℕ) → n ≡ length ids → ListStands s (drop next ids) left → LevelIsOver (nat_le n next) (More left x next)
 none-left s n next ids left x e h = by-left left (drop next ids) refl h
@@ -60,25 +47,6 @@ leads-less s base below f levels over l =
     by-level Inside gs o e r = absurd (cc)
     by-level Waiting gs o e r = absurd (cc)
 
--- the top frame is not over
-pub settles-here : (s : Shape) (base : List ℕ) (below : List Frame) (f : Frame) (levels : List Level) → ((x : List ℕ) (g : Level) → FrameStands s x f g → LevelIsOver false g) → Leads s base (below ++ f ∷ []) None levels → SettlesTo s base (below ++ f ∷ []) None levels
-settles-here s base below f levels over l =
-    let t = top-stands s base below f l.levels_left l.stands in
-    record {
-      levels_left = l.levels_left;
-      stands = l.stands;
-      settled = let P : List Level → Type 0 = λ ls. Settled None ls in subst P (sym t.is) (by-level t.level t.others (over _ t.level t.stands));
-      is = l.is;
-    }
-  where
-    by-level : (g : Level) (gs : List Level) → LevelIsOver false g → Settled None (g ∷ gs)
-    by-level (More Nothing x i) gs o = absurd (cc)
-    by-level (More (Then u us) x i) gs o = tt
-    by-level (Again body x k times) gs o = tt
-    by-level (Tried dead_only handler x) gs o = tt
-    by-level Inside gs o = tt
-    by-level Waiting gs o = tt
-
 -- no frame is left
 pub settles-empty : (s : Shape) (base : List ℕ) (raised : Option (List Fault)) (levels : List Level) → Leads s base [] raised levels → SettlesTo s base [] raised levels
 settles-empty s base raised levels l =
@@ -102,11 +70,9 @@ unwinds-less s base below f faults levels over l =
     by-level t.level t.others (over _ t.level t.stands) t.is t.rest
   where
     by-level : (g : Level) (gs : List Level) → IsCatch false g → l.levels_left ≡ g ∷ gs → FramesStand s base below gs → Leads s base below (Some faults) levels
-    by-level (More left x i) gs o e r = record { levels_left = gs; stands = r; is = sym (ap (term_of (Some faults)) e) ∙ l.is }
-    by-level (Again body x k times) gs o e r = record { levels_left = gs; stands = r; is = sym (ap (term_of (Some faults)) e) ∙ l.is }
     by-level (Tried dead_only handler x) gs o e r = absurd (cc)
     by-level Inside gs o e r = absurd (cc)
-    by-level Waiting gs o e r = record { levels_left = gs; stands = r; is = sym (ap (term_of (Some faults)) e) ∙ l.is }
+    by-level _ gs o e r = record { levels_left = gs; stands = r; is = sym (ap (term_of (Some faults)) e) ∙ l.is }
 
 pub unwinds-here : (s : Shape) (base : List ℕ) (below : List Frame) (f : Frame) (faults : List Fault) (levels : List Level) → ((x : List ℕ) (g : Level) → FrameStands s x f g → IsCatch true g) → Leads s base (below ++ f ∷ []) (Some faults) levels → SettlesTo s base (below ++ f ∷ []) (Some faults) levels
 unwinds-here s base below f faults levels over l =
@@ -119,8 +85,6 @@ unwinds-here s base below f faults levels over l =
     }
   where
     by-level : (g : Level) (gs : List Level) → IsCatch true g → Settled (Some faults) (g ∷ gs)
-    by-level (More left x i) gs o = absurd (cc)
-    by-level (Again body x k times) gs o = absurd (cc)
     by-level (Tried dead_only handler x) gs o = tt
     by-level Inside gs o = tt
-    by-level Waiting gs o = absurd (cc)
+    by-level _ gs o = absurd (cc)

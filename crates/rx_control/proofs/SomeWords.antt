@@ -1,7 +1,7 @@
 -- In a script of the grammar each `new` asks for a word.
 use Rattle.std.proofs.Common.{◌≡◌, ℕ, ◌<◌, true, false, Bool, refl, arith, nat_lt, ◌&&◌}
 use Rattle.std.proofs.lemmas.Bool.Decides.{nat_tests}
-use Rattle.rx_rules.proofs.Common.{Stmt, SetTo, New, Get, Put, Forget, Print, Census, Throw, Async, AtAsync, At, Finish, If, Repeat, Try, Block, Nothing, Then}
+use Rattle.rx_rules.proofs.Common.{Stmt, New, Async, AtAsync, At, Finish, If, Repeat, Try, Block, Nothing, Then}
 use Rattle.rx_syntax.specs.Grammar.{InRange, AllInRange, may_hold}
 use Rattle.rx_runs.specs.SomeWords.{MakesSome, StmtMakesSome}
 
@@ -14,14 +14,7 @@ some-words k e = by-test (nat_lt 0 k) refl e
 
 mutual
   stmt-makes : (t : Stmt) → InRange t → StmtMakesSome t
-  stmt-makes (SetTo n e) f = tt
   stmt-makes (New n k) f = some-words k f
-  stmt-makes (Get n t e) f = tt
-  stmt-makes (Put t i e) f = tt
-  stmt-makes (Forget t) f = tt
-  stmt-makes (Print e) f = tt
-  stmt-makes (Census name) f = tt
-  stmt-makes (Throw e) f = tt
   stmt-makes (Async b) f = makes-some b f
   stmt-makes (AtAsync e b) f = makes-some b f
   stmt-makes (At e b) f = makes-some b f
@@ -29,6 +22,7 @@ mutual
   stmt-makes (If e a b) f = (makes-some a f.0, makes-some b f.1)
   stmt-makes (Repeat n b) f = makes-some b f.1
   stmt-makes (Try a d b) f = (makes-some a f.0, makes-some b f.1)
+  stmt-makes _ f = tt
 
   pub makes-some : (b : Block) → AllInRange b → MakesSome b
   makes-some Nothing f = tt

@@ -7,9 +7,9 @@ use Rattle.rx_control.specs.Levels.{Level, More, Again, Tried, Inside, Waiting, 
 use Rattle.rx_control.specs.declared.frame.Frame.{Frame}
 use Rattle.rx_control.specs.declared.frame.Frame.TheVariants.{Seq, Turns, Try, Body, Held}
 use Rattle.rx_control.specs.declared.control.Control.{Control}
-use Rattle.rx_control.specs.Stands.{path_of, FrameStands, FramesStand, StandsFor, IsSame}
+use Rattle.rx_control.specs.Stands.{path_of, FrameStands, FramesStand, StandsFor}
 use Rattle.rx_control.specs.Inside.Front.{AtStatement, SettlesTo}
-use Rattle.rx_control.proofs.Moves.{top-stands, empty-stands}
+use Rattle.rx_control.proofs.Moves.{top-stands}
 use Rattle.rx_control.proofs.Front.{statement}
 
 -- the top frame, and the term
@@ -27,11 +27,6 @@ at-top s c t below f e h =
     let k = top-stands s c.base below f h.levels (subst P e h.stands) in
     let Q : List Level → Type 0 = λ ls. Settled c.raised ls in
     record { level = k.level; others = k.others; stands = k.stands; rest = k.rest; settled = subst Q k.is h.settled; is = h.is ∙ ap (term_of c.raised) k.is }
-
-pub at-end : (s : Shape) (c : Control) (t : Term) → c.frames.items ≡ [] → StandsFor s c t → t ≡ term_of c.raised []
-at-end s c t e h =
-    let P : List Frame → Type 0 = λ fs. FramesStand s c.base fs h.levels in
-    h.is ∙ ap (term_of c.raised) (empty-stands s c.base h.levels (subst P e h.stands))
 
 -- a statement at the top
 pub at-statement : (s : Shape) (c : Control) (t : Term) (below : List Frame) (block : BlockId) (next : ℕ) (part : Option ℕ) → c.raised ≡ None → c.frames.items ≡ below ++ Seq block next part ∷ [] → StandsFor s c t → AtStatement s c t below block next part
@@ -84,14 +79,3 @@ calm-held s c t below a =
     by-raised : (gs : List Level) (r : Option (List Fault)) → Settled r (Waiting ∷ gs) → r ≡ None
     by-raised gs None h = refl
     by-raised gs (Some faults) h = absurd h
-
--- a control with the same parts stands for the same terms
-pub same-stands : (s : Shape) (a b : Control) (t : Term) → IsSame a b → StandsFor s b t → StandsFor s a t
-same-stands s a b t e h =
-    let P : List ℕ → Type 0 = λ x. FramesStand s x a.frames.items h.levels in
-    let Q : List Frame → Type 0 = λ fs. FramesStand s b.base fs h.levels in
-    let R : Option (List Fault) → Type 0 = λ r. Settled r h.levels in
-    record { levels = h.levels; stands = subst P (sym e.base) (subst Q (sym e.frames) h.stands); settled = subst R (sym e.raised) h.settled; is = h.is ∙ sym (ap (λ r. term_of r h.levels) e.raised) }
-
-pub same-trans : (a b c : Control) → IsSame a b → IsSame b c → IsSame a c
-same-trans a b c h k = record { base = h.base ∙ k.base; frames = h.frames ∙ k.frames; raised = h.raised ∙ k.raised; vars = h.vars ∙ k.vars }

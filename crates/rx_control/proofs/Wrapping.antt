@@ -1,75 +1,37 @@
 -- What a term does, seen from the tries and finishes around it.
 use Rattle.std.proofs.Common.{◌≡◌, ℕ, List, [], ◌∷◌, Bool, refl, ap, sym, ◌∙◌}
-use Rattle.rx_rules.proofs.Common.{Fault, Block, Vars, Term, Empty, Run, Raise, Turns, Trying, Body, Held, Does, Local, Makes, Gets, Puts, Forgets, Opens, Calls, Spawns, Waits, Releases, Prints, Counts, Done, does, within, begins, granted, child, replaced, after_it, receives, trying_does, body_does, body_granted}
+use Rattle.rx_rules.proofs.Common.{Fault, Block, Vars, Term, Empty, Raise, Trying, Body, Does, Local, does, within, begins, granted, child, replaced, after_it, receives, trying_does, body_does, body_granted}
 use Rattle.rx_control.specs.Levels.{Level, More, Again, Tried, Inside, Waiting, seq, wrap}
 use Rattle.rx_control.specs.Inside.Front.{lifted}
 
 -- a term that is neither empty nor raised
 abbrev pub IsBusy : Term → Type 0
 IsBusy Empty = ⊥
-IsBusy (Run stmt x rest) = Unit {0}
 IsBusy (Raise faults) = ⊥
-IsBusy (Turns body x k times rest) = Unit {0}
-IsBusy (Trying inside dead_only handler x rest) = Unit {0}
-IsBusy (Body inside rest) = Unit {0}
-IsBusy (Held rest) = Unit {0}
+IsBusy _ = Unit {0}
 
 within-id : (d : Does) → within (λ t. t) d ≡ d
 within-id (Local left vars) = refl
-within-id (Makes name words) = refl
-within-id (Gets name target index) = refl
-within-id (Puts target index value) = refl
-within-id (Forgets target) = refl
-within-id Opens = refl
-within-id (Calls place) = refl
-within-id (Spawns place) = refl
-within-id (Waits faults) = refl
-within-id Releases = refl
-within-id (Prints value) = refl
-within-id (Counts name) = refl
-within-id (Done faults) = refl
+within-id _ = refl
 
 within-within : (f g : Term → Term) (d : Does) → within f (within g d) ≡ within (λ t. f (g t)) d
 within-within f g (Local left vars) = refl
-within-within f g (Makes name words) = refl
-within-within f g (Gets name target index) = refl
-within-within f g (Puts target index value) = refl
-within-within f g (Forgets target) = refl
-within-within f g Opens = refl
-within-within f g (Calls place) = refl
-within-within f g (Spawns place) = refl
-within-within f g (Waits faults) = refl
-within-within f g Releases = refl
-within-within f g (Prints value) = refl
-within-within f g (Counts name) = refl
-within-within f g (Done faults) = refl
+within-within f g _ = refl
 
 trying-busy : (vars : Vars) (t : Term) (d : Does) (dead_only : Bool) (handler : Block) (x : List ℕ) (rest : Term) → IsBusy t → trying_does vars t d dead_only handler x rest ≡ within (λ u. Trying u dead_only handler x rest) d
 trying-busy vars Empty d dead_only handler x rest h = absurd h
-trying-busy vars (Run stmt y more) d dead_only handler x rest h = refl
 trying-busy vars (Raise faults) d dead_only handler x rest h = absurd h
-trying-busy vars (Turns body y k times more) d dead_only handler x rest h = refl
-trying-busy vars (Trying inside o b y more) d dead_only handler x rest h = refl
-trying-busy vars (Body inside more) d dead_only handler x rest h = refl
-trying-busy vars (Held more) d dead_only handler x rest h = refl
+trying-busy vars _ d dead_only handler x rest h = refl
 
 body-busy : (t : Term) (d : Does) (rest : Term) → IsBusy t → body_does t d rest ≡ within (λ u. Body u rest) d
 body-busy Empty d rest h = absurd h
-body-busy (Run stmt y more) d rest h = refl
 body-busy (Raise faults) d rest h = absurd h
-body-busy (Turns body y k times more) d rest h = refl
-body-busy (Trying inside o b y more) d rest h = refl
-body-busy (Body inside more) d rest h = refl
-body-busy (Held more) d rest h = refl
+body-busy _ d rest h = refl
 
 granted-busy : (t after rest : Term) → IsBusy t → body_granted t after rest ≡ Body after rest
 granted-busy Empty after rest h = absurd h
-granted-busy (Run stmt y more) after rest h = refl
 granted-busy (Raise faults) after rest h = absurd h
-granted-busy (Turns body y k times more) after rest h = refl
-granted-busy (Trying inside o b y more) after rest h = refl
-granted-busy (Body inside more) after rest h = refl
-granted-busy (Held more) after rest h = refl
+granted-busy _ after rest h = refl
 
 -- the next step
 pub does-wrap : (vars : Vars) (here : ℕ) (t : Term) (s : List Level) → IsBusy t → does vars here (wrap t s) ≡ lifted s (does vars here t)

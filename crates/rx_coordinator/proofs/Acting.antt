@@ -127,9 +127,6 @@ held_seat c p es st t w e = of_row (seat_at c.seats t.0) refl e where
 
 -- Who may end, and who may wait.
 
-of_own : (T : Tree) (t : TaskId) (o : Option Scope) → own_scope T t ≡ o → (o ≡ None) → own_scope T t ≡ None
-of_own T t o e k = e ∙ k
-
 pub bare_of : (T : Tree) (t : TaskId) (w : Seat) → Reached T → Seated T t w → w.who.inner ≡ w.who.scope → own_scope T t ≡ None
 bare_of T t w r s e =
     (elim (own_scope T t) as (λ o. own_scope T t ≡ o → o ≡ None) [

@@ -37,10 +37,10 @@ use Rattle.rx_coordinator.specs.Inside.Rows.{held_in, scope_in}
 use Rattle.rx_coordinator.specs.Inside.Walks.{AllThere, AllDue, NextDue, ParkedIs, IsLeft}
 use Rattle.rx_coordinator.specs.Stands.{StandsAfter, IsReplyTo, Landing, Awaits, May, Busy}
 use Rattle.rx_coordinator.specs.Parking.{AllWait, Parks, WaiterIsThere, HasToWait, IsParked, Puts, AskedBeside, PassedBy, waiter_of, request_of, answer_to, scope_numbered}
-use Rattle.rx_coordinator.proofs.Finding.{found_changed}
-use Rattle.rx_coordinator.proofs.Telling.{told_some, free_stays, own_open, own_call, own_spawn, own_arrive, own_wait}
+use Rattle.rx_coordinator.proofs.Telling.{told_some, own_open, own_call, own_spawn, own_arrive, own_wait}
 use Rattle.rx_coordinator.proofs.Asking.{Seated, seated}
 use Rattle.rx_coordinator.proofs.Waiting.{NotAmong, own_waits, act_waits, all_there, end_waits, fewer_wait, join_waits, death_waits, root_waits}
+use Rattle.rx_ledger.proofs.GoesOn.{found_changed, free_stays}
 
 -- a task that does not wait is none of those who wait
 pub not_among : (T : Tree) (t : TaskId) (x : Task) → task_of T t ≡ Some x → x.struck ≡ None → (x.waits ≡ true → ⊥) → (ws : Waiters) (d : Due) → AllWait T ws d → NotAmong ws t

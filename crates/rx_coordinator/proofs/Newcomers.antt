@@ -24,8 +24,10 @@ use Rattle.rx_chronicle.proofs.Linking.{link, links, top, inner_top, Linked, All
 use Rattle.rx_coordinator.specs.declared.seats.Seat.{Seat}
 use Rattle.rx_coordinator.specs.Seats.{new_seat}
 use Rattle.rx_coordinator.specs.Telling.{seat_of, seat_in, seat_told}
-use Rattle.rx_coordinator.proofs.Finding.{other_found, found_changed, scope_found, first_passes}
-use Rattle.rx_coordinator.proofs.Telling.{is_seat, told_some, free_stays}
+use Rattle.rx_coordinator.proofs.Finding.{scope_found, first_passes}
+use Rattle.rx_coordinator.proofs.Telling.{is_seat, told_some}
+use Rattle.rx_tree_laws.proofs.Staying.{find_unchanged}
+use Rattle.rx_ledger.proofs.GoesOn.{found_changed, free_stays}
 
 -- it has none where its place is dead
 abbrev pub row_of_new : Tree → TaskId → ScopeId → PlaceId → PlaceId → Option Seat
@@ -59,7 +61,7 @@ module _ (T : Tree) (r : Reached T) (t : TaskId) where
       let apart : child.0 ≢ t.0 = λ e. absurd (omega (arith, low, next, e)) in
       let same : (child.0 == child.0) ≡ true = eq-eqb child.0 child.0 refl in
       let off : (t.0 == child.0) ≡ false = ne_eqb t.0 child.0 (λ e. apart (sym e)) in
-      let there : task_of V child ≡ Some b = other_found t child waiting (λ y. refl) apart (b ∷ T.tasks) ∙ ap (λ (c : Bool). cond c (Some b) (find (is_task child) T.tasks)) same in
+      let there : task_of V child ≡ Some b = find_unchanged t child waiting (λ y. refl) apart (b ∷ T.tasks) ∙ ap (λ (c : Bool). cond c (Some b) (find (is_task child) T.tasks)) same in
       let own : filter (opened_by child) V.scopes ≡ [] = rw off (none_own child next) in
       let inside : inner V b ≡ s = inner_top V b ∙ ap (λ (gs : List Scope). top (map link gs) s) own in
       ap (seat_in V) there

@@ -13,14 +13,15 @@ use Rattle.rx_rules.proofs.Lookups.{number-of}
 use Rattle.rx_tree_laws.proofs.Reached.{sound}
 use Rattle.rx_tree_laws.proofs.Reach.{task_below}
 use Rattle.rx_tree_laws.proofs.Stay.{find_filter}
-use Rattle.rx_tree_laws.proofs.Staying.{find_unfiltered}
+use Rattle.rx_tree_laws.proofs.Staying.{find_unfiltered, find_unchanged}
 use Rattle.rx_tree_laws.proofs.Owning.{release_keeps}
 use Rattle.rx_chronicle.proofs.Linking.{find-hit, Link, link, links, top, inner_top, links_faulted}
-use Rattle.rx_ledger.proofs.Others.{ended}
+use Rattle.rx_ledger.proofs.Others.{ended, none_filtered}
 use Rattle.rx_coordinator.specs.declared.seats.Seat.{Seat}
 use Rattle.rx_coordinator.specs.Seats.{unhit}
 use Rattle.rx_coordinator.specs.Telling.{seat_of, seat_in, seat_told}
-use Rattle.rx_coordinator.proofs.Finding.{other_found, other_left, none_left, found_changed, none_filtered}
+use Rattle.rx_coordinator.proofs.Finding.{other_left, none_left}
+use Rattle.rx_ledger.proofs.GoesOn.{found_changed, free_stays}
 
 -- the task that an act starts is not this one
 abbrev pub Starts : Act → TaskId → Type 0
@@ -60,10 +61,6 @@ found_born T child t s from to apart =
     let off : (child.0 == t.0) ≡ false = ne_eqb child.0 t.0 apart in
     ap (λ (b : Bool). cond b (Some (born T child s from to)) (task_of T t)) off
 
-pub free_stays : (b : Bool) (o : Option Blow) → o ≡ None → not (b && is_some o) ≡ true
-free_stays true o e = ap (λ (v : Option Blow). not (true && is_some v)) e
-free_stays false o e = refl
-
 module _ (T : Tree) (r : Reached T) (u t : TaskId) (apart : t.0 ≢ u.0) where
   skip : (u.0 == t.0) ≡ false
   skip = ne_eqb u.0 t.0 (λ e. apart (sym e))
@@ -82,7 +79,7 @@ module _ (T : Tree) (r : Reached T) (u t : TaskId) (apart : t.0 ≢ u.0) where
       keeps z = not (is_under T s z && is_some z.struck)
 
       there : task_of (made_act T u (Release s lost masked thrown)) t ≡ find (is_task t) (filter (λ z. not (is_under T s z && is_some z.struck)) T.tasks)
-      there = other_found u t resumed (λ z. refl) apart (without T s).tasks
+      there = find_unchanged u t resumed (λ z. refl) apart (without T s).tasks
 
       stands : (x : Task) → task_of T t ≡ Some x → (o : Option Blow) → x.struck ≡ o → seat_in (made_act T u (Release s lost masked thrown)) (find (is_task t) (filter (λ z. not (is_under T s z && is_some z.struck)) T.tasks)) ≡ cond (is_none x.struck) (Some (seat_of T x)) None
       stands x w None e =
@@ -108,13 +105,13 @@ module _ (T : Tree) (r : Reached T) (u t : TaskId) (apart : t.0 ≢ u.0) where
   pub others_told : (act : Act) → AllowedAct T u act → Starts act t → seat_told (made_act T u act) t ≡ seat_told T t
   others_told (Open s p path) may new = same_seat T (made_act T u (Open s p path)) t refl (rw skip refl)
   others_told (Calls from to s p child path) may new =
-      same_seat T (made_act T u (Calls from to s p child path)) t (other_found u t waiting (λ z. refl) apart (born T child s from to ∷ T.tasks) ∙ found_born T child t s from to new) (rw skip refl)
+      same_seat T (made_act T u (Calls from to s p child path)) t (find_unchanged u t waiting (λ z. refl) apart (born T child s from to ∷ T.tasks) ∙ found_born T child t s from to new) (rw skip refl)
   others_told (Spawn child s from to path) may new =
       same_seat T (made_act T u (Spawn child s from to path)) t (found_born T child t s from to new) refl
   others_told (Arrive p) may new =
-      same_seat T (made_act T u (Arrive p)) t (other_found u t (λ z. record z { place = At p }) (λ z. refl) apart T.tasks) refl
+      same_seat T (made_act T u (Arrive p)) t (find_unchanged u t (λ z. record z { place = At p }) (λ z. refl) apart T.tasks) refl
   others_told (Wait s thrown) may new =
-      same_seat T (made_act T u (Wait s thrown)) t (other_found u t waiting (λ z. refl) apart T.tasks)
+      same_seat T (made_act T u (Wait s thrown)) t (find_unchanged u t waiting (λ z. refl) apart T.tasks)
       (links_faulted (opened_by t) (is_scope s) (λ g. record g { body = thrown }) T.scopes (λ g. refl) (λ g. refl))
   others_told (Release s lost masked thrown) may new = released s lost masked thrown may
   others_told (End thrown) may new =

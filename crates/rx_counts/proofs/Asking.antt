@@ -147,10 +147,6 @@ scope_rooted T who P h f = subst (λ (u : ScopeId). meets the_root T.scopes (Som
 pub scope_kept : {room : ℕ} (l : CountLedger) (T : Tree) (who : Caller) (P : Task → Type 0) → StandsFor l room T → (f : Free T who P) → Kept l.width T l.scopes who.scope.0
 scope_kept l T who P s f = kept_some T l.scopes who.scope.0 s.fit.scopes (find (has_number who.scope.0) T.scopes) refl (met_found the_root T.scopes who.scope (scope_rooted T who P (sound s.reached) f))
 
--- a missing record is that of no scope
-pub missing : {size : ℕ} (T : Tree) (rs : List (Option (Box Record))) (k : ℕ) → Kept size T rs k → record_at rs k ≡ None → ⊥
-missing T rs k q e = let f = q.found in cc
-
 -- a ledger with the same records stands for the same trees
 pub same_fit : (l m : CountLedger) (T : Tree) → Fit l T → m.places ≡ l.places → m.width ≡ l.width → m.dead ≡ l.dead → m.next_task ≡ l.next_task → m.next_scope ≡ l.next_scope → m.totals ≡ l.totals → length m.scopes ≡ length l.scopes → ((n : ℕ) → record_at m.scopes n ≡ record_at l.scopes n) → Fit m T
 same_fit l m T h places width dead next_task next_scope totals len same =

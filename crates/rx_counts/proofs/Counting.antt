@@ -101,16 +101,6 @@ sum_same f g (x ∷ xs) h =
     let d : f x ≡ g x = h.0 in
     omega arith
 
-pub sum_split : {X : Type 0} (f g h : X → ℕ) (xs : List X) → Each (λ x. f x ≡ g x + h x) xs → sum_by f xs ≡ sum_by g xs + sum_by h xs
-sum_split f g h [] e = refl
-sum_split f g h (x ∷ xs) e =
-    let a = sum_by-cons f x xs in
-    let b = sum_by-cons g x xs in
-    let c = sum_by-cons h x xs in
-    let d = sum_split f g h xs e.1 in
-    let k : f x ≡ g x + h x = e.0 in
-    omega arith
-
 pub sum_none : {X : Type 0} (f : X → ℕ) (xs : List X) → Each (λ x. f x ≡ 0) xs → sum_by f xs ≡ 0
 sum_none f [] h = refl
 sum_none f (x ∷ xs) h = let a = sum_by-cons f x xs in let b : f x ≡ 0 = h.0 in let c = sum_none f xs h.1 in omega arith

@@ -1,5 +1,5 @@
 -- The death of a place.
-use Rattle.std.proofs.Common.{◌≡◌, ℕ, ◌<◌, ◌^◌, Bool, true, false, ◌&&◌, ◌==◌, not, List, [], ◌∷◌, Option, Some, None, is_none, slice_index_or, slice_set, length, map, suc, IfSome, refl, sym, ap, ◌∙◌, subst, arith}
+use Rattle.std.proofs.Common.{◌≡◌, ℕ, ◌<◌, ◌^◌, Bool, true, false, ◌&&◌, ◌==◌, not, List, [], ◌∷◌, Option, Some, None, is_none, slice_index_or, slice_set, length, map, IfSome, refl, sym, ap, ◌∙◌, subst, arith}
 use Rattle.std.specs.List.{list_any}
 use Rattle.std.specs.Global.{Box}
 use Rattle.std.proofs.lemmas.Bool.{eqb-true, eqb-false, lt-ltb, le-ltb}
@@ -8,7 +8,6 @@ use Rattle.std.proofs.Math.Bool.{and-false, and-true}
 use Rattle.rx_tree_laws.proofs.Parents.{based}
 use Rattle.rx_rules.proofs.Common.{PlaceId, Tree, is_scope, the_root, hit, strike, Reached, dies as place_dies, has_number}
 use Rattle.rx_rules.specs.declared.tasks.Blow.{Blow}
-use Rattle.rx_rules.specs.declared.tasks.Task.{Task}
 use Rattle.rx_rules.specs.declared.tasks.Scope.{Scope}
 use Rattle.rx_tree_laws.specs.Sound.{Each, Sound}
 use Rattle.rx_tree_laws.proofs.Changes.{each_found}
@@ -44,10 +43,6 @@ strike_ok l T d n st may =
     let a = may.dies.0 in
     let b = h.few in
     (omega arith, may_hit _ d (stands_home T.dead) T.scopes T.tasks l.scopes st.fit.scopes)
-
-same_length : (b : Blow) (ts : List Task) → length (map (hit b) ts) ≡ length ts
-same_length b [] = refl
-same_length b (x ∷ xs) = ap suc (same_length b xs)
 
 until_zero : (keeps : Scope → Bool) (d : PlaceId) (gs : List Scope) → Each (λ k. keeps k ≡ given_until keeps d 0 k) gs
 until_zero keeps d [] = tt

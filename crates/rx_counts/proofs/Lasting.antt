@@ -1,9 +1,9 @@
 -- A scope that may be released: its home lives, and its opener has no later scope. Its counts alone tell whether it is quiet.
-use Rattle.std.proofs.Common.{◌≡◌, ℕ, ◌<◌, ◌≤◌, Bool, true, false, ◌&&◌, ◌==◌, not, List, [], ◌∷◌, Option, Some, None, is_none, slice_index_or, refl, sym, ap, ◌∙◌, subst, arith}
+use Rattle.std.proofs.Common.{◌≡◌, ℕ, ◌≤◌, Bool, true, false, ◌&&◌, ◌==◌, not, List, [], ◌∷◌, Option, Some, None, is_none, slice_index_or, refl, sym, ap, ◌∙◌, subst, arith}
 use Rattle.std.specs.List.{find, list_any}
 use Rattle.std.proofs.lemmas.Bool.{eqb-true, eq-eqb, ne_eqb, true≢false, or_from, or_parts, and_from, and_left, and_right, not-true}
 use Rattle.std.proofs.Math.Bool.{and-true}
-use Rattle.rx_tree_laws.proofs.Opening.{own_place}
+use Rattle.rx_tree_laws.proofs.Opening.{own_place, root_unopened}
 use Rattle.rx_tree_laws.proofs.Waiting.{each_stands}
 use Rattle.rx_tree_laws.proofs.Enabling.{any_none}
 use Rattle.rx_rules.proofs.Common.{TaskId, ScopeId, Tree, is_task, task_of, is_scope, opened_by, own_scope, is_under, quiet, the_root}
@@ -16,7 +16,7 @@ use Rattle.rx_rules.specs.declared.tasks.Task.{Task}
 use Rattle.rx_rules.specs.declared.tasks.Scope.{Scope}
 use Rattle.rx_finish.specs.Callers.{HasRoot}
 use Rattle.rx_tree_laws.specs.Blows.{blow_at}
-use Rattle.rx_tree_laws.specs.Chains.{meets, HasOpener, Opened}
+use Rattle.rx_tree_laws.specs.Chains.{meets}
 use Rattle.rx_tree_laws.specs.Sound.{TaskFits, Sound}
 use Rattle.rx_tree_laws.proofs.Changes.{each_found, each_more}
 use Rattle.rx_tree_laws.proofs.Releasing.{on_meets, each_none}
@@ -61,14 +61,6 @@ root_keeps dead (g ∷ gs) z h =
       | false ↦ λ e q. and_left (is_scope the_root g) (not (stands_home dead g)) (sym (and-true (is_scope the_root g)) ∙ q)
     ]) refl parts.0)
     (root_keeps dead gs z parts.1)
-
-unopened : (ts : List Task) (g : Scope) (gs : List Scope) (o : TaskId) (p : Option TaskId) → g.opener ≡ p → HasOpener ts g gs p → is_scope the_root g && opened_by o g ≡ false
-unopened ts g gs o None e h = and_right (is_scope the_root g) (opened_by o g) (rw e)
-unopened ts g gs o (Some p) e h = and_left (is_scope the_root g) (opened_by o g) (let low : h.task.under.0 < g.number.0 = h.older in ne_eqb g.number.0 0 (λ q. absurd (omega arith)))
-
-root_unopened : (ts : List Task) (gs : List Scope) (o : TaskId) → Opened ts gs → list_any (λ x. is_scope the_root x && opened_by o x) gs ≡ false
-root_unopened ts [] o h = refl
-root_unopened ts (g ∷ gs) o h = or_from (is_scope the_root g && opened_by o g) (list_any (λ x. is_scope the_root x && opened_by o x) gs) (unopened ts g gs o g.opener refl h.0) (root_unopened ts gs o h.1)
 
 pub root_last : (T : Tree) → Sound T → HasRoot T → IsLast T the_root
 root_last T h r =

@@ -57,12 +57,6 @@ module _ {X : Type 0} where
   pub slots_set : (xs : List (List (Option X))) (c n : ℕ) (ys : List (Option X)) (w : Option X) → n / 1024 < length xs → slice_index_or ys (n % 1024) None ≡ w → ((k : ℕ) → (k ≡ n % 1024 → ⊥) → slice_index_or ys k None ≡ slice_index_or (slice_index_or xs (n / 1024) []) k None) → slots_of (slice_set xs (n / 1024) ys) c ≡ slice_set (slots_of xs c) n w
   slots_set xs c n ys w low here same = made_set (slot_at xs) (slot_at (slice_set xs (n / 1024) ys)) c n w (slot_here xs n ys w low here) (λ m d. slot_same xs n m ys low same d)
 
-  -- the same where the slot itself is written
-  pub slots_written : (xs : List (List (Option X))) (c n : ℕ) (w : Option X) → n / 1024 < length xs → n % 1024 < length (slice_index_or xs (n / 1024) []) → slots_of (slice_set xs (n / 1024) (slice_set (slice_index_or xs (n / 1024) []) (n % 1024) w)) c ≡ slice_set (slots_of xs c) n w
-  slots_written xs c n w low within =
-      let ps = slice_index_or xs (n / 1024) [] in
-      slots_set xs c n (slice_set ps (n % 1024) w) w low (get_or-set_same ps (n % 1024) w None within) (λ k d. get_or-set_other ps (n % 1024) k w None d)
-
   -- a page with no slots is added
   pub slots_more : (xs : List (List (Option X))) (c : ℕ) → slots_of (xs ++ [] ∷ []) c ≡ slots_of xs c
   slots_more xs c = made_same (slot_at xs) (slot_at (xs ++ [] ∷ [])) c None (λ m. ap (λ zs. slice_index_or zs (m % 1024) None) (default_more xs [] (m / 1024)))

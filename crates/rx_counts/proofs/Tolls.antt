@@ -1,10 +1,9 @@
 -- How many tasks a death strikes: the sum over the records, since each task counts in one of them.
-use Rattle.std.proofs.Common.{◌≡◌, ℕ, zero, suc, ◌<◌, ◌≤◌, ◌+◌, ◌^◌, Bool, true, false, cond, ◌||◌, ◌&&◌, ◌==◌, not, List, [], ◌∷◌, Option, Some, None, is_none, is_some, option_map, box_value, slice_index_or, length, map, count_by, refl, sym, ap, ◌∙◌, subst, arith, ⊎_elim}
+use Rattle.std.proofs.Common.{◌≡◌, ℕ, zero, suc, ◌<◌, ◌≤◌, ◌+◌, ◌^◌, Bool, true, false, cond, ◌||◌, ◌&&◌, ◌==◌, not, List, [], ◌∷◌, Option, Some, None, is_none, is_some, length, map, count_by, refl, sym, ap, ◌∙◌, subst, arith, ⊎_elim}
 use Rattle.std.specs.List.{find}
 use Rattle.std.specs.Global.{Box}
 use Rattle.std.proofs.lemmas.Bool.{eqb-true, eq-eqb, ne_eqb, true≢false, cases_eq, cases_lt}
 use Rattle.std.proofs.Math.Bool.{and-false, and-true}
-use Rattle.std.proofs.lemmas.Option.{get_or_from_slice_get, slice_get_read}
 use Rattle.rx_rules.proofs.Common.{PlaceId, Tree, hit, is_hit, has_number}
 use Rattle.rx_base.proofs.Options.{some-of}
 use Rattle.rx_rules.specs.declared.tasks.Where.{Where}
@@ -183,11 +182,6 @@ toll_next d rs i a b c o ea eb eo ec =
     ∙ ap (λ (t : Toll). record { all = t.all + b.all; there = t.there + b.there }) ea
     ∙ ap (λ (t : Toll). record { all = (toll_below d rs i).all + t.all; there = (toll_below d rs i).there + t.there }) (eb ∙ ap (toll_in d) eo)
     in now ∙ next))
-
--- what the loop reads is the record of its number
-pub read_here : (rs qs : List (Option (Box Record))) (i : ℕ) (x : Option (Box Record)) → length qs ≡ length rs → i < length rs → x ≡ slice_index_or qs i x → record_at qs i ≡ record_at rs i → option_map box_value x ≡ record_at rs i
-read_here rs qs i x len low is same =
-    ap (option_map box_value) (sym (get_or_from_slice_get qs i x None (slice_get_read qs (length qs) i x refl (subst (λ (n : ℕ). i < n) (sym len) low) is))) ∙ same
 
 -- One task, before the death and after it.
 

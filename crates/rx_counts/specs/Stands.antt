@@ -150,9 +150,6 @@ in_sums f r = record r { sums = f r.sums }
 abbrev pub with_body : List Fault → Record → Record
 with_body thrown r = record r { body = thrown }
 
-abbrev pub with_ends : List Fault → Record → Record
-with_ends thrown r = record r { ends = r.ends ++ thrown }
-
 -- a relation of two records that may be missing
 abbrev pub Pairs : (Record → Record → Type 0) → Option Record → Option Record → Type 0
 Pairs R (Some r) (Some q) = R r q

@@ -50,10 +50,6 @@ pub pieces-marked : (c : ℕ) (w : List ℕ) (ws : List (List ℕ)) → Lacks c 
 pieces-marked c w [] l ls = ap (pieces c) (append-nil w) ∙ pieces-one c w l
 pieces-marked c w (v ∷ ws) l ls = pieces-cut c w (v ++ marked c ws) l ∙ ap (λ vs. w ∷ vs) (pieces-marked c v ws ls.0 ls.1)
 
-abbrev pub put_together : ℕ → List (List ℕ) → List ℕ
-put_together c [] = []
-put_together c (w ∷ ws) = w ++ marked c ws
-
 -- what was cut is put together again, and there is a piece
 abbrev pub Together : ℕ → List ℕ → List (List ℕ) → Type 0
 Together c bytes [] = ⊥

@@ -1,13 +1,11 @@
 -- Numbers that stand one behind the other, with dots.
-use Rattle.std.proofs.Common.{◌≡◌, ℕ, ◌+◌, ◌<◌, ◌≤◌, ◌^◌, true, cond, nat_le, List, [], ◌∷◌, ◌++◌, length, take, zero, suc, refl, ap, sym, ◌∙◌, subst, arith, append_assoc, ◌≢◌, Option, Some, None, option_map, slice_set}
+use Rattle.std.proofs.Common.{◌≡◌, ℕ, ◌+◌, ◌<◌, ◌≤◌, ◌^◌, true, cond, nat_le, List, [], ◌∷◌, ◌++◌, length, take, zero, suc, refl, ap, sym, ◌∙◌, subst, arith, append_assoc, ◌≢◌, Some, None, option_map, slice_set}
 use Rattle.std.specs.List.{AllByRecursion, flat_map}
 use Rattle.std.proofs.lemmas.Bool.{le-leb}
-use Rattle.std.proofs.lemmas.Option.{same_Some}
 use Rattle.std.proofs.lemmas.List.{length-take}
 use Rattle.rx_text.specs.Numbers.{natural_text}
 use Rattle.rx_fields.specs.Words.{Lacks, pieces, words_left}
 use Rattle.rx_fields.specs.Inside.FieldWords.{next, naturals_of, path_of, path_at}
-use Rattle.rx_fields.specs.Inside.PartWords.{item_of, left_of}
 use Rattle.rx_fields.specs.Inside.Readers.{is_word_end}
 use Rattle.rx_fields.proofs.Cuts.{all-append, pieces-cut, pieces-one}
 use Rattle.rx_fields.proofs.Fronts.{no-blank, no_dot, read_again, word-then}
@@ -101,18 +99,3 @@ read-path bytes ns new rest tail n r low is end e few =
     path =
         ap (λ o. next o (λ ks. cond (nat_le (length ks) 65) (Some ks) None)) (read-all ns n r.1 low ∙ ap Some (sym e))
         ∙ ap (λ b. cond b (Some new) None) (le-leb (length new) 65 few)
-
--- a path in front is taken
-pub path_first : (ws left : List (List ℕ)) (p : List ℕ) → path_at ws ≡ Some (p, left) → (Some p, left) ≡ item_of path_of ws
-path_first [] left p is = absurd (cc is)
-path_first (w ∷ ws) left p is = by (path_of w) refl is
-  where
-    with_left : List ℕ → List ℕ × List (List ℕ)
-    with_left a = (a, ws)
-
-    back : List ℕ × List (List ℕ) → Option (List ℕ) × List (List ℕ)
-    back x = (Some x.0, x.1)
-
-    by : (o : Option (List ℕ)) → path_of w ≡ o → option_map with_left o ≡ Some (p, left) → (Some p, left) ≡ left_of o w ws
-    by None e f = absurd (cc f)
-    by (Some q) e f = ap back (sym (same_Some (with_left q) (p, left) f))

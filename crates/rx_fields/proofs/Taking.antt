@@ -14,7 +14,6 @@ use Rattle.rx_fields.specs.Inside.FieldWords.{number_below, place_of}
 use Rattle.rx_fields.specs.Inside.Readers.{Reader, either, gathered, many, one_or_more, part}
 use Rattle.rx_fields.specs.Words.{first_word}
 use Rattle.rx_fields.specs.Inside.PartWords.{set_of, place_joined, places_at, key_of, left_of, item_of}
-use Rattle.rx_fields.proofs.Cuts.{bytes-same}
 use Rattle.rx_fields.proofs.Bits.{joined-low, joined-bit}
 use Rattle.rx_fields.proofs.Figures.{below-takes}
 
@@ -160,15 +159,6 @@ below-power n p e =
     let h : n < n / 2 ^ p * 2 ^ p + 2 ^ p = lt-div-mul-add (pow_pos p) in
     let k : n < 0 * 2 ^ p + 2 ^ p = subst (λ q. n < q * 2 ^ p + 2 ^ p) e h in
     omega arith
-
--- the reader that the first word picks
-pub by-word : {A : Type 0} (q r : Reader A) (words rest : List (List ℕ)) (w key : List ℕ) → Some (paired w rest) ≡ first_word words → true ≡ bytes_eq w key → ((ws : List (List ℕ)) → q (key ∷ ws) ≡ r ws) → r rest ≡ q words
-by-word q r [] rest w key first same picks = absurd (none-some (w, rest) (sym first))
-by-word q r (v ∷ ws) rest w key first same picks =
-    let e = same_Some (paired w rest) (paired v ws) first in
-    let is : key ≡ v = sym (bytes-same w key (sym same)) ∙ ap (λ x. x.0) e in
-    let left : rest ≡ ws = ap (λ x. x.1) e in
-    ap r left ∙ sym (picks ws) ∙ ap (λ k. q (k ∷ ws)) is
 
 -- the first word is another
 pub other-word : {A : Type 0} (key : List ℕ) (r other : Reader A) (words new : List (List ℕ)) (b : Bool) → (b, new) ≡ key_of key words → b ≡ false → other [] ≡ None → other new ≡ either key r other words

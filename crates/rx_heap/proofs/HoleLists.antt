@@ -47,10 +47,6 @@ pub LieApart-earlier : (w a b : ℕ) (hs : List Hole) → b ≤ a → LieApart w
 LieApart-earlier w a b [] e l = tt
 LieApart-earlier w a b (h ∷ hs) e l = (omega arith, l.1, l.2, l.3)
 
-pub LieApart-wider : (w v a : ℕ) (hs : List Hole) → w ≤ v → LieApart w a hs → LieApart v a hs
-LieApart-wider w v a [] e l = tt
-LieApart-wider w v a (h ∷ hs) e l = (l.0, l.1, omega arith, LieApart-wider w v (h.start + h.len + 1) hs e l.3)
-
 -- the words of holes lie from a on, and below w
 pub InHole-from : (w a : ℕ) (hs : List Hole) (x : ℕ) → LieApart w a hs → InHole hs x → a ≤ x
 InHole-from w a [] x l i = absurd i

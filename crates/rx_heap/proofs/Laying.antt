@@ -1,9 +1,9 @@
 -- How live blocks and holes lie after a block is taken and after one is given back.
-use Rattle.std.proofs.Common.{◌≡◌, ◌≢◌, ℕ, ◌+◌, ◌-◌, ◌*◌, ◌^◌, ◌<◌, ◌≤◌, ◌⊎◌, inl, inr, ℤ, List, ◌∷◌, ◌++◌, length, get_or, take, drop, set, arith, subst, sym, ◌∙◌, ap, length-set, get_or-set_same, get_or-set_other, length-take, length-append, length-drop, All, slice_index}
+use Rattle.std.proofs.Common.{◌≡◌, ◌≢◌, ℕ, ◌+◌, ◌-◌, ◌<◌, ◌≤◌, ◌⊎◌, inl, inr, ℤ, List, ◌∷◌, ◌++◌, length, get_or, take, drop, set, arith, subst, sym, ◌∙◌, ap, length-set, get_or-set_same, get_or-set_other, length-take, length-append, length-drop, All, slice_index}
 use Rattle.std.proofs.lemmas.Bool.{cases_lt, cases_eq}
 use Rattle.rx_heap.specs.declared.block.Hole.{Hole}
 use Rattle.rx_heap.specs.Region.{Region, Extent, IsLiveExtent, InHole, LieApart, IsLaid, IsFree, IsLeastFree}
-use Rattle.rx_heap.specs.Inside.HoleEdits.{Cuts, Joins, HasRoom}
+use Rattle.rx_heap.specs.Inside.HoleEdits.{Cuts, Joins}
 use Rattle.rx_heap.proofs.HoleLists.{InHole-below, run_in_hole, run_not_short, run_begins}
 use Rattle.rx_heap.proofs.Cutting.{split_at}
 
@@ -125,19 +125,6 @@ laid_give R holes b l live c =
                   ]
             ]
       ];
-    }
-
--- a live block has room to be given back
-pub give_has_room : (R : Region) (capacity : ℕ) (b : Extent) → IsLaid R → length R.words < 2 ^ 32 → length R.words < 2 * capacity → IsLiveExtent R b → HasRoom (length R.words) R.holes capacity b.start b.len
-give_has_room R capacity b l small room live =
-    let there = live.there in
-    let some = live.some in
-    record {
-      small = small;
-      room = room;
-      apart = l.holes;
-      ends = (let i = l.inside b.start (omega arith) in omega arith);
-      clear = λ x from below i. l.once x i (b.start, from, omega arith);
     }
 
 -- free words in a row are in one hole

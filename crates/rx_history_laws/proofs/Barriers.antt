@@ -1,8 +1,8 @@
 -- Where a statement is before another, one task keeps the order by itself, or a `finish` or `at` on the way does.
-use Rattle.std.proofs.Common.{◌≡◌, ◌⊎◌, ℕ, zero, suc, Bool, true, false, cond, ◌==◌, nat_lt, List, [], ◌∷◌, ◌++◌, Option, Some, refl, ap, sym, subst, ◌∙◌, arith, inl, inr}
-use Rattle.std.proofs.lemmas.Bool.{true≢false, eqb-true, ltb-true, cond_both}
+use Rattle.std.proofs.Common.{◌≡◌, ◌⊎◌, ℕ, zero, suc, Bool, true, false, ◌==◌, nat_lt, List, [], ◌∷◌, ◌++◌, Option, Some, refl, ap, sym, subst, ◌∙◌, arith, inl, inr}
+use Rattle.std.proofs.lemmas.Bool.{true≢false, eqb-true, cond_both}
 use Rattle.rx_rules.proofs.Common.{Stmt, SetTo, New, Get, Put, Forget, Census, Print, Throw, Async, AtAsync, At, Finish, If, Repeat, Try, Block, Nothing, Then, is_kept, is_kept_in, before_inside, is_before_in, comes_before}
-use Rattle.rx_history_laws.proofs.Paths.{Below}
+use Rattle.rx_history_laws.proofs.Paths.{Below, below_turn, below-suc}
 use Rattle.rx_history_laws.proofs.Straight.{stmt_at, stmt_in, code_at, is_straight, is_straight_in, is_ahead, is_ahead_in, comes_ahead, is_waiter}
 
 -- the way x passes a waiter, and the waiter passes the test; `find` tells the statement at a path
@@ -53,14 +53,6 @@ one test inner find within i same found x (inr b) =
 
 mutual
   kept-cases : (s : Stmt) (x : List ℕ) → is_kept s x ≡ true → Cases (is_straight s) (stmt_at s) x
-  kept-cases (SetTo name value) x h = inl refl
-  kept-cases (New name words) x h = inl refl
-  kept-cases (Get name target index) x h = inl refl
-  kept-cases (Put target index value) x h = inl refl
-  kept-cases (Forget target) x h = inl refl
-  kept-cases (Census name) x h = inl refl
-  kept-cases (Print value) x h = inl refl
-  kept-cases (Throw value) x h = inl refl
   kept-cases (Async body) x h = absurd (true≢false (sym h))
   kept-cases (AtAsync place body) x h = absurd (true≢false (sym h))
   kept-cases (At place body) [] h = inl refl
@@ -83,6 +75,7 @@ mutual
   kept-cases (Try body dead_only handler) (suc zero ∷ i ∷ x) h =
       two (is_straight (Try body dead_only handler)) (is_straight_in handler i) (stmt_at (Try body dead_only handler)) (stmt_in handler i) 1 i (λ y. refl) (λ y. refl) x (kept-cases_in handler i x h)
   kept-cases (Try body dead_only handler) x h = cc
+  kept-cases _ x h = inl refl
 
   kept-cases_in : (b : Block) (i : ℕ) (x : List ℕ) → is_kept_in b i x ≡ true → Cases (is_straight_in b i) (stmt_in b i) x
   kept-cases_in Nothing i x h = absurd (true≢false (sym h))
@@ -225,16 +218,6 @@ shut-comes_ahead code [] i w z u e h b = absurd b
 shut-comes_ahead code (j ∷ x) i w [] u e h b = absurd b
 shut-comes_ahead code (j ∷ x) i w (m ∷ z) u e h b = shut-ahead_in code j x i w m z u e h b
 
--- what is ahead is below
-ahead_turn : (k m i j : ℕ) (x y : List ℕ) (inside kept e l : Bool) → (k == m) ≡ e → nat_lt k m ≡ l → (inside ≡ true → Below (i ∷ x) (j ∷ y)) → cond e inside (cond l kept false) ≡ true → Below (k ∷ i ∷ x) (m ∷ j ∷ y)
-ahead_turn k m i j x y inside kept true l he hl f h = inr (eqb-true k m he, f h)
-ahead_turn k m i j x y inside kept false true he hl f h = inl (ltb-true k m hl)
-ahead_turn k m i j x y inside kept false false he hl f h = absurd (true≢false (sym h))
-
-below_suc : (i j : ℕ) (x y : List ℕ) → Below (i ∷ x) (j ∷ y) → Below (suc i ∷ x) (suc j ∷ y)
-below_suc i j x y (inl h) = inl (omega arith)
-below_suc i j x y (inr h) = inr (ap suc h.0, h.1)
-
 mutual
   ahead-below : (s : Stmt) (x y : List ℕ) → is_ahead s x y ≡ true → Below x y
   ahead-below (Async body) (i ∷ x) (j ∷ y) h = ahead-below_in body i x j y h
@@ -243,7 +226,7 @@ mutual
   ahead-below (Finish body) (i ∷ x) (j ∷ y) h = ahead-below_in body i x j y h
   ahead-below (If test first other) (zero ∷ i ∷ x) (zero ∷ j ∷ y) h = inr (refl, ahead-below_in first i x j y h)
   ahead-below (If test first other) (suc zero ∷ i ∷ x) (suc zero ∷ j ∷ y) h = inr (refl, ahead-below_in other i x j y h)
-  ahead-below (Repeat times body) (k ∷ i ∷ x) (m ∷ j ∷ y) h = ahead_turn k m i j x y (is_ahead_in body i x j y) (is_straight_in body i x) (k == m) (nat_lt k m) refl refl (ahead-below_in body i x j y) h
+  ahead-below (Repeat times body) (k ∷ i ∷ x) (m ∷ j ∷ y) h = below_turn k m i j x y (is_ahead_in body i x j y) (is_straight_in body i x) (k == m) (nat_lt k m) refl refl (ahead-below_in body i x j y) h
   ahead-below (Try body dead_only handler) (zero ∷ i ∷ x) (zero ∷ j ∷ y) h = inr (refl, ahead-below_in body i x j y h)
   ahead-below (Try body dead_only handler) (suc zero ∷ i ∷ x) (suc zero ∷ j ∷ y) h = inr (refl, ahead-below_in handler i x j y h)
   ahead-below (Try body dead_only handler) (zero ∷ i ∷ x) (suc zero ∷ j ∷ y) h = inl (omega arith)
@@ -254,7 +237,7 @@ mutual
   ahead-below_in (Then first rest) zero x zero y h = inr (refl, ahead-below first x y h)
   ahead-below_in (Then first rest) zero x (suc j) y h = inl (omega arith)
   ahead-below_in (Then first rest) (suc i) x zero y h = absurd (true≢false (sym h))
-  ahead-below_in (Then first rest) (suc i) x (suc j) y h = below_suc i j x y (ahead-below_in rest i x j y h)
+  ahead-below_in (Then first rest) (suc i) x (suc j) y h = below-suc i j x y (ahead-below_in rest i x j y h)
 
 pub comes_ahead-below : (code : Block) (x y : List ℕ) → comes_ahead code x y ≡ true → Below x y
 comes_ahead-below code (i ∷ x) (j ∷ y) h = ahead-below_in code i x j y h

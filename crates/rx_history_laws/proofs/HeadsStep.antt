@@ -1,11 +1,11 @@
 -- A local step or an answer brings no item into a waiter that no item was in.
-use Rattle.std.proofs.Common.{◌≡◌, ◌⊎◌, ℕ, suc, Bool, false, List, [], ◌∷◌, ◌++◌, Some, None, refl, nat_le, ap, sym, subst, ◌∙◌, inl, inr}
-use Rattle.std.proofs.lemmas.Bool.{cond_both}
-use Rattle.rx_rules.proofs.Common.{Fault, Block, Nothing, Then, Stmt, SetTo, New, Get, Put, Forget, Census, Print, Throw, Async, AtAsync, At, Finish, If, Repeat, Try, Term, Empty, Run, Raise, Turns, Trying, Body, Held, Vars, Does, Gets, Puts, Forgets, Calls, Spawns, Prints, at, items_from, items, does, stmt_does, trying_does, body_does, eval, target_of, is_zero, catches, replaced, after_it}
+use Rattle.std.proofs.Common.{◌≡◌, ◌⊎◌, ℕ, suc, Bool, false, List, [], ◌∷◌, ◌++◌, Some, None, refl, ap, sym, subst, ◌∙◌, inl, inr}
+use Rattle.rx_rules.proofs.Common.{Fault, Block, Nothing, Then, Stmt, If, Try, Term, Empty, Run, Raise, Turns, Trying, Body, Vars, Does, at, items_from, items, does, replaced, after_it}
+use Rattle.rx_rules.proofs.StepRules.{StepRule, raises, sets, takes_first, takes_other, repeats, tries, turns_over, turns_on, try_over, caught, uncaught, in_try, asks_in_try, in_body, asks_in_body, rule_of}
 use Rattle.rx_base.proofs.Elements.{tails-are}
 use Rattle.rx_history_laws.proofs.Straight.{code_at, is_waiter}
 use Rattle.rx_history_laws.proofs.Paths.{Starts, starts-same, starts-trans, starts-at}
-use Rattle.rx_history_laws.proofs.TermOrder.{IfLocal, local-number, local-place, local-ref, local-within}
+use Rattle.rx_history_laws.proofs.TermOrder.{IfLocal, asking-if}
 use Rattle.rx_history_laws.proofs.TermCode.{Coded, Idle, code-on, no_part_if, no_part_try}
 use Rattle.rx_history_laws.proofs.Heads.{Head}
 
@@ -78,35 +78,6 @@ block-from code t b z c rest idle here f h k =
       | inr r ↦ from-same code t h (f h r)
     ]
 
-stmt-from : (code : Block) (vars : Vars) (here : ℕ) (stmt : Stmt) (x : List ℕ) (rest : Term) → code_at code x ≡ Some stmt → IfLocal (HeadsFrom code (Run stmt x rest)) (stmt_does vars here stmt x rest)
-stmt-from code vars here (SetTo name value) x rest e =
-    local-number (HeadsFrom code (Run (SetTo name value) x rest)) vars (eval vars here value) _ (λ f h k. absurd k) (λ z h k. from-same code (Run (SetTo name value) x rest) h (inr k))
-stmt-from code vars here (New name words) x rest e = tt
-stmt-from code vars here (Get name target index) x rest e =
-    local-number (HeadsFrom code (Run (Get name target index) x rest)) vars (eval vars here index) _ (λ f h k. absurd k)
-    (λ z. local-ref (HeadsFrom code (Run (Get name target index) x rest)) vars here target (λ r. Gets name r z) (λ f h k. absurd k) (λ g. tt))
-stmt-from code vars here (Put target index value) x rest e =
-    local-number (HeadsFrom code (Run (Put target index value) x rest)) vars (eval vars here index) _ (λ f h k. absurd k)
-    (λ k. local-number (HeadsFrom code (Run (Put target index value) x rest)) vars (eval vars here value) _ (λ f h k. absurd k) (λ z. local-ref (HeadsFrom code (Run (Put target index value) x rest)) vars here target (λ r. Puts r k z) (λ f h k. absurd k) (λ g. tt)))
-stmt-from code vars here (Forget target) x rest e = local-ref (HeadsFrom code (Run (Forget target) x rest)) vars here target Forgets (λ f h k. absurd k) (λ g. tt)
-stmt-from code vars here (Census name) x rest e = tt
-stmt-from code vars here (Print value) x rest e = local-number (HeadsFrom code (Run (Print value) x rest)) vars (eval vars here value) Prints (λ f h k. absurd k) (λ z. tt)
-stmt-from code vars here (Throw value) x rest e = local-number (HeadsFrom code (Run (Throw value) x rest)) vars (eval vars here value) _ (λ f h k. absurd k) (λ z h k. absurd k)
-stmt-from code vars here (Async body) x rest e = tt
-stmt-from code vars here (AtAsync place body) x rest e = local-place (HeadsFrom code (Run (AtAsync place body) x rest)) vars (target_of (eval vars here place) vars.places) Spawns (λ f h k. absurd k) (λ p. tt)
-stmt-from code vars here (At place body) x rest e = local-place (HeadsFrom code (Run (At place body) x rest)) vars (target_of (eval vars here place) vars.places) Calls (λ f h k. absurd k) (λ p. tt)
-stmt-from code vars here (Finish body) x rest e = tt
-stmt-from code vars here (If test first other) x rest e =
-    local-number (HeadsFrom code (Run (If test first other) x rest)) vars (eval vars here test) _ (λ f h k. absurd k)
-    (λ z. cond_both (is_zero z) (items other (at x 1) rest) (items first (at x 0) rest) (HeadsFrom code (Run (If test first other) x rest))
-    (λ t. block-from code (Run (If test first other) x rest) other x 1 rest (If test first other, e, refl, no_part_if test first other) (inl refl) (λ h k. inr k))
-    (λ t. block-from code (Run (If test first other) x rest) first x 0 rest (If test first other, e, refl, no_part_if test first other) (inl refl) (λ h k. inr k)))
-stmt-from code vars here (Repeat times body) x rest e = λ h k. from-same code (Run (Repeat times body) x rest) h k
-stmt-from code vars here (Try body dead_only handler) x rest e = λ h k. elim k [
-  | inl i ↦ block-from code (Run (Try body dead_only handler) x rest) body x 0 Empty (Try body dead_only handler, e, refl, no_part_try body dead_only handler) (inl refl) (λ v n. absurd n) h i
-  | inr r ↦ from-same code (Run (Try body dead_only handler) x rest) h r
-]
-
 in-trying : (code : Block) (inside after : Term) (dead_only : Bool) (handler : Block) (x : List ℕ) (rest : Term) → HeadsFrom code inside after → HeadsFrom code (Trying inside dead_only handler x rest) (Trying after dead_only handler x rest)
 in-trying code inside after dead_only handler x rest f h (inl k) = from-wider code inside (Trying inside dead_only handler x rest) h (λ v n. inl n) (f h k)
 in-trying code inside after dead_only handler x rest f h (inr k) = from-same code (Trying inside dead_only handler x rest) h (inr k)
@@ -115,61 +86,48 @@ in-body : (code : Block) (inside after rest : Term) → HeadsFrom code inside af
 in-body code inside after rest f h (inl k) = from-wider code inside (Body inside rest) h (λ v n. inl n) (f h k)
 in-body code inside after rest f h (inr k) = from-same code (Body inside rest) h (inr k)
 
-trying-from : (code : Block) (vars : Vars) (d : Does) (inside : Term) (dead_only : Bool) (handler : Block) (x : List ℕ) (rest : Term) → Idle code x → IfLocal (HeadsFrom code inside) d → IfLocal (HeadsFrom code (Trying inside dead_only handler x rest)) (trying_does vars inside d dead_only handler x rest)
-trying-from code vars d Empty dead_only handler x rest c h = λ v k. from-same code (Trying Empty dead_only handler x rest) v (inr (inr k))
-trying-from code vars d (Raise faults) dead_only handler x rest c h =
-    cond_both (catches dead_only faults) (items handler (at x 1) rest) (Raise faults) (HeadsFrom code (Trying (Raise faults) dead_only handler x rest))
-    (λ e. block-from code (Trying (Raise faults) dead_only handler x rest) handler x 1 rest c (inr (inl refl)) (λ v k. inr (inr k))) (λ e v k. absurd k)
-trying-from code vars d (Run stmt y more) dead_only handler x rest c h = local-within (HeadsFrom code (Run stmt y more)) (HeadsFrom code (Trying (Run stmt y more) dead_only handler x rest)) (λ t. Trying t dead_only handler x rest) (λ t m. in-trying code (Run stmt y more) t dead_only handler x rest m) d h
-trying-from code vars d (Turns b y k times more) dead_only handler x rest c h = local-within (HeadsFrom code (Turns b y k times more)) (HeadsFrom code (Trying (Turns b y k times more) dead_only handler x rest)) (λ t. Trying t dead_only handler x rest) (λ t m. in-trying code (Turns b y k times more) t dead_only handler x rest m) d h
-trying-from code vars d (Trying t1 d1 h1 x1 r1) dead_only handler x rest c h = local-within (HeadsFrom code (Trying t1 d1 h1 x1 r1)) (HeadsFrom code (Trying (Trying t1 d1 h1 x1 r1) dead_only handler x rest)) (λ t. Trying t dead_only handler x rest) (λ t m. in-trying code (Trying t1 d1 h1 x1 r1) t dead_only handler x rest m) d h
-trying-from code vars d (Body t1 r1) dead_only handler x rest c h = local-within (HeadsFrom code (Body t1 r1)) (HeadsFrom code (Trying (Body t1 r1) dead_only handler x rest)) (λ t. Trying t dead_only handler x rest) (λ t m. in-trying code (Body t1 r1) t dead_only handler x rest m) d h
-trying-from code vars d (Held r1) dead_only handler x rest c h = local-within (HeadsFrom code (Held r1)) (HeadsFrom code (Trying (Held r1) dead_only handler x rest)) (λ t. Trying t dead_only handler x rest) (λ t m. in-trying code (Held r1) t dead_only handler x rest m) d h
-
-body-from : (code : Block) (d : Does) (inside rest : Term) → IfLocal (HeadsFrom code inside) d → IfLocal (HeadsFrom code (Body inside rest)) (body_does inside d rest)
-body-from code d Empty rest h = tt
-body-from code d (Raise faults) rest h = tt
-body-from code d (Run stmt y more) rest h = local-within (HeadsFrom code (Run stmt y more)) (HeadsFrom code (Body (Run stmt y more) rest)) (λ t. Body t rest) (λ t m. in-body code (Run stmt y more) t rest m) d h
-body-from code d (Turns b y k times more) rest h = local-within (HeadsFrom code (Turns b y k times more)) (HeadsFrom code (Body (Turns b y k times more) rest)) (λ t. Body t rest) (λ t m. in-body code (Turns b y k times more) t rest m) d h
-body-from code d (Trying t1 d1 h1 x1 r1) rest h = local-within (HeadsFrom code (Trying t1 d1 h1 x1 r1)) (HeadsFrom code (Body (Trying t1 d1 h1 x1 r1) rest)) (λ t. Body t rest) (λ t m. in-body code (Trying t1 d1 h1 x1 r1) t rest m) d h
-body-from code d (Body t1 r1) rest h = local-within (HeadsFrom code (Body t1 r1)) (HeadsFrom code (Body (Body t1 r1) rest)) (λ t. Body t rest) (λ t m. in-body code (Body t1 r1) t rest m) d h
-body-from code d (Held r1) rest h = local-within (HeadsFrom code (Held r1)) (HeadsFrom code (Body (Held r1) rest)) (λ t. Body t rest) (λ t m. in-body code (Held r1) t rest m) d h
+from_by : (code : Block) {vars : Vars} {here : ℕ} {t : Term} {d : Does} → StepRule vars here t d → Coded code t → IfLocal (HeadsFrom code t) d
+from_by code (raises fault) c = λ h k. absurd k
+from_by code {t = t} (sets z) c = λ h k. from-same code t h (inr k)
+from_by code {t = t} (takes_first {test = test} {first = first} {other = other} {x = x} {rest = rest}) c =
+    block-from code t first x 0 rest (If test first other, c.0, refl, no_part_if test first other) (inl refl) (λ h k. inr k)
+from_by code {t = t} (takes_other {test = test} {first = first} {other = other} {x = x} {rest = rest}) c =
+    block-from code t other x 1 rest (If test first other, c.0, refl, no_part_if test first other) (inl refl) (λ h k. inr k)
+from_by code {t = t} repeats c = λ h k. from-same code t h k
+from_by code {t = t} (tries {body = body} {dead_only = o} {handler = handler} {x = x}) c = λ h k. elim k [
+  | inl i ↦ block-from code t body x 0 Empty (Try body o handler, c.0, refl, no_part_try body o handler) (inl refl) (λ v n. absurd n) h i
+  | inr r ↦ from-same code t h r
+]
+from_by code {t = t} turns_over c = λ h k. from-same code t h (inr k)
+from_by code {t = t} (turns_on {body = body} {x = x} {k = k} {times = times} {rest = rest} left) c =
+    block-from code t body x k (Turns body x (suc k) times rest) c.2 (inl refl) (λ h n. n)
+from_by code {t = t} try_over c = λ h k. from-same code t h (inr (inr k))
+from_by code {t = t} (caught {handler = handler} {x = x} {rest = rest}) c = block-from code t handler x 1 rest c.3 (inr (inl refl)) (λ h k. inr (inr k))
+from_by code uncaught c = λ h k. absurd k
+from_by code (in_try {inside = inside} {left = left} {dead_only = o} {handler = handler} {x = x} {rest = rest} s) c =
+    in-trying code inside left o handler x rest (from_by code s c.0)
+from_by code {t = t} {d = d} (asks_in_try g a s) c = asking-if (HeadsFrom code t) d a
+from_by code (in_body {inside = inside} {left = left} {rest = rest} s) c = in-body code inside left rest (from_by code s c.0)
+from_by code {t = t} {d = d} (asks_in_body g a s) c = asking-if (HeadsFrom code t) d a
+from_by code _ c = tt
 
 pub local-from : (code : Block) (vars : Vars) (here : ℕ) (t : Term) → Coded code t → IfLocal (HeadsFrom code t) (does vars here t)
-local-from code vars here Empty c = tt
-local-from code vars here (Raise faults) c = tt
-local-from code vars here (Run stmt x rest) c = stmt-from code vars here stmt x rest c.0
-local-from code vars here (Turns b x k times rest) c =
-    cond_both (nat_le times k) rest (items b (at x k) (Turns b x (suc k) times rest)) (HeadsFrom code (Turns b x k times rest))
-    (λ e h n. from-same code (Turns b x k times rest) h (inr n))
-    (λ e. block-from code (Turns b x k times rest) b x k (Turns b x (suc k) times rest) c.2 (inl refl) (λ h n. n))
-local-from code vars here (Trying inside dead_only handler x rest) c =
-    trying-from code vars (does vars here inside) inside dead_only handler x rest c.3 (local-from code vars here inside c.0)
-local-from code vars here (Body inside rest) c =
-    body-from code (does vars here inside) inside rest (local-from code vars here inside c.0)
-local-from code vars here (Held rest) c = tt
+local-from code vars here t c = from_by code (rule_of vars here t) c
 
 -- an answer leaves items that were there
 
 after-head : (t : Term) (h : List ℕ) → Head (after_it t) h → Head t h
-after-head Empty h k = absurd k
-after-head (Raise faults) h k = absurd k
 after-head (Run stmt x rest) h k = inr k
-after-head (Turns b x m times rest) h k = absurd k
 after-head (Trying inside dead_only handler x rest) h k = inl (after-head inside h k)
 after-head (Body inside rest) h k = inl (after-head inside h k)
-after-head (Held rest) h k = absurd k
+after-head _ h k = absurd k
 
 pub replaced-head : (t new : Term) (h : List ℕ) → Head (replaced t new) h → Head t h ⊎ Head new h
-replaced-head Empty new h k = inr k
-replaced-head (Raise faults) new h k = inr k
-replaced-head (Run stmt x rest) new h k = inr k
-replaced-head (Turns b x m times rest) new h k = inr k
 replaced-head (Trying inside dead_only handler x rest) new h (inl k) = elim (replaced-head inside new h k) [ inl a ↦ inl (inl a) | inr b ↦ inr b ]
 replaced-head (Trying inside dead_only handler x rest) new h (inr k) = inl (inr k)
 replaced-head (Body inside rest) new h (inl k) = elim (replaced-head inside new h k) [ inl a ↦ inl (inl a) | inr b ↦ inr b ]
 replaced-head (Body inside rest) new h (inr k) = inl (inr k)
-replaced-head (Held rest) new h k = inr k
+replaced-head _ new h k = inr k
 
 pub fine-head : (t : Term) (h : List ℕ) → Head (replaced t (after_it t)) h → Head t h
 fine-head t h k = elim (replaced-head t (after_it t) h k) [ inl a ↦ a | inr b ↦ after-head t h b ]

@@ -3,7 +3,7 @@ use Rattle.std.proofs.Common.{◌≡◌, ◌⊎◌, ℕ, ◌+◌, ◌<◌, true,
 use Rattle.std.proofs.lemmas.Bool.{false_from_ne_true, true≢false}
 use Rattle.rx_rules.proofs.Common.{TaskId, PlaceId, Fault, PlaceSet, Block, Stmt, Term, Vars, started_by, Tree, the_root, Allowed, AllowedAct, made, births_of, Given, IsRun, InOrder, told, is_on, walk, links, born_so_far}
 use Rattle.rx_rules.specs.declared.entries.Act.{Act}
-use Rattle.rx_rules.specs.declared.entries.Act.TheVariants.{Open, At as Calling, Spawn, Arrive, Wait, Release, End, Print as Printed, Census as Counted}
+use Rattle.rx_rules.specs.declared.entries.Act.TheVariants.{Release}
 use Rattle.rx_rules.specs.declared.entries.Entry.{Entry}
 use Rattle.rx_rules.specs.declared.entries.Entry.TheVariants.{Step, Root, Death, Join}
 use Rattle.rx_rules.specs.declared.events.PlaceEvent.{PlaceEvent}
@@ -25,28 +25,11 @@ use Rattle.rx_history_laws.proofs.Rows.{under_in, Linked, living-born}
 use Rattle.rx_history_laws.proofs.Kept.{AllFinish, finish-filter, Known, Kept, kept-start}
 use Rattle.rx_history_laws.proofs.KeptStep.{none-open, below-kept, single-kept, grow-kept, kind-kept, under-kept, own-kept, linked-kept, stays-open, stays-own}
 use Rattle.rx_history_laws.proofs.KeptBirth.{hangs, child-under}
-
-pub started-next : (T : Tree) (t : TaskId) (act : Act) → AllowedAct T t act → (d : TaskId) → started_by act ≡ Some d → d.0 ≡ T.next_task
-started-next T t (Calling from to s r c x) a d e = let same : c ≡ d = cc in ap (λ (v : TaskId). v.0) (sym same) ∙ a.asks.3
-started-next T t (Spawn c s from to x) a d e = let same : c ≡ d = cc in ap (λ (v : TaskId). v.0) (sym same) ∙ a.asks.1
-started-next T t (Open s r x) a d e = cc
-started-next T t (Arrive p) a d e = cc
-started-next T t (Wait s thrown) a d e = cc
-started-next T t (Release s lost masked thrown) a d e = cc
-started-next T t (End thrown) a d e = cc
-started-next T t (Printed value x) a d e = cc
-started-next T t (Counted places x) a d e = cc
+use Rattle.rx_tree_laws.proofs.Births.{started-next}
 
 starter_no_release : (act : Act) (d : TaskId) → started_by act ≡ Some d → is_release act ≡ false
 starter_no_release (Release s lost masked thrown) d e = cc
-starter_no_release (Open s r x) d e = refl
-starter_no_release (Calling from to s r c x) d e = refl
-starter_no_release (Spawn c s from to x) d e = refl
-starter_no_release (Arrive p) d e = refl
-starter_no_release (Wait s thrown) d e = refl
-starter_no_release (End thrown) d e = refl
-starter_no_release (Printed value x) d e = refl
-starter_no_release (Counted places x) d e = refl
+starter_no_release _ d e = refl
 
 module _ (code : Block) (starts : List (Term × Vars)) (n : ℕ) (past : List Entry) (T : Tree) (t : TaskId) (act : Act) (batch told : List (List ℕ)) (f : ℕ → Term) (i : Tied past T) (s : Shape code past T.next_task f) (sd : Says starts (f t.0) act told) (a : AllowedAct T t act) (low : t.0 < T.next_task) (lives : is_alive T t.0 ≡ true) (k : Kept code past T f) where
   abbrev after : Tree

@@ -2,14 +2,14 @@
 use Rattle.std.proofs.Common.{◌≡◌, ◌⊎◌, ℕ, zero, suc, ◌+◌, ◌<◌, ◌≤◌, true, List, [], ◌∷◌, length, Option, Some, None, slice_get, refl, ap, sym, subst, ◌∙◌, arith, inl, inr, add-zero}
 use Rattle.std.specs.List.{filter_map}
 use Rattle.std.proofs.lemmas.Bool.{eq-eqb, ne_eqb, cases_eq, cases_order}
-use Rattle.rx_rules.proofs.Common.{TaskId, Block, Term, Empty, Vars, no_vars, items, Tree, made, AllAllowed, opening, BeginsWithArrival, Birth, EachPlays, birth_from, birth_of, travels, cell_of, journal_at, moves_from, IsStoreRun, State, after_cell, opening_state, AtHome, Given, IsRun, AllJournals, JournalOk, death_number, close_in, ClosesAt}
+use Rattle.rx_rules.proofs.Common.{TaskId, Block, Term, Empty, Vars, no_vars, items, Tree, made, AllAllowed, opening, BeginsWithArrival, Birth, EachPlays, birth_of, travels, cell_of, journal_at, moves_from, IsStoreRun, State, after_cell, opening_state, AtHome, Given, IsRun, AllJournals, JournalOk, death_number, close_in, ClosesAt}
 use Rattle.rx_rules.specs.declared.entries.Entry.{Entry}
 use Rattle.rx_rules.specs.declared.entries.Entry.TheVariants.{Step, Root, Death, Join}
 use Rattle.rx_rules.specs.declared.events.Cell.{Cell}
 use Rattle.rx_rules.specs.declared.events.PlaceEvent.{PlaceEvent}
 use Rattle.rx_rules.specs.declared.events.PlaceEvent.TheVariants.{Done, Close}
 use Rattle.rx_rules.specs.Order.{OrderKept, JournalsInOrder}
-use Rattle.rx_tree_laws.proofs.Births.{StartsOther, from-other}
+use Rattle.rx_tree_laws.proofs.Births.{born_before}
 use Rattle.rx_history_laws.proofs.Paths.{Comes, comes-kept}
 use Rattle.rx_history_laws.proofs.TermOrder.{Todo}
 use Rattle.rx_history_laws.proofs.Ties.{Tied}
@@ -161,23 +161,6 @@ module _ (code : Block) (starts : List (Term × Vars)) (p : ℕ) (home : ℕ →
       process n n (e ∷ es) past T f j a i (by_entry n e es past T a i (events-from (suc n) es)) s k tale ahead
 
 -- The start of a whole run.
-
--- a task that is born already is in no later entry
-born_before : (n : ℕ) (T : Tree) (es : List Entry) → AllAllowed n T es → (c : ℕ) → c < T.next_task → birth_from n es c ≡ record { from = record { 0 = 0 }; to = record { 0 = 0 }; low = 0 }
-born_before n T [] a c h = refl
-born_before n T (Root lost masked thrown ∷ es) a c h = born_before (suc n) (made n T (Root lost masked thrown)) es a.1 c h
-born_before n T (Death d ∷ es) a c h = born_before (suc n) (made n T (Death d)) es a.1 c h
-born_before n T (Join d ∷ es) a c h = born_before (suc n) (made n T (Join d)) es a.1 c h
-born_before n T (Step t act batch ∷ es) a c h =
-    let o = other (starting n T t act batch a.0) in
-    from-other n c t act batch es o.0 ∙ born_before (suc n) (made n T (Step t act batch)) es a.1 c o.1
-  where
-    other : Starting n T t act batch → StartsOther act c × (c < (made n T (Step t act batch)).next_task)
-    other (starts_none none same) = (λ d e k. let bad : None ≡ Some d = sym none ∙ e in absurd (let f : ⊥ = cc in f), omega (arith, same, h))
-    other (starts_one d e new more) = (
-      λ m k w. let same : d ≡ m = let g : Some d ≡ Some m = sym e ∙ k in cc in let number : d.0 ≡ m.0 = ap (λ (v : TaskId). v.0) same in omega (arith, new, number, w, h),
-      omega (arith, more, h),
-    )
 
 closes-last : (w : ℕ) (S : State) (j : List PlaceEvent) → IsStoreRun w S j → ClosesLast j
 closes-last w S [] h = tt

@@ -1,7 +1,7 @@
 -- A task that is born hangs under each scope of another task in whose statement it has an item.
 use Rattle.std.proofs.Common.{◌≡◌, ℕ, ◌<◌, ◌≤◌, true, ◌==◌, List, [], ◌∷◌, ◌++◌, Some, None, refl, ap, sym, subst, ◌∙◌, arith, inl, inr, append_assoc, append-nil}
 use Rattle.std.proofs.lemmas.Bool.{eq-eqb, or_left, or_right, cases_eq, true≢false}
-use Rattle.rx_rules.proofs.Common.{TaskId, ScopeId, Block, Stmt, SetTo, New, Get, Put, Forget, Census, Print, Throw, Async, AtAsync, At, Finish, If, Repeat, Try, Term, Vars, started_by, Tree, AllowedAct, own_path, is_kept, is_on, walk, links, born_so_far}
+use Rattle.rx_rules.proofs.Common.{TaskId, ScopeId, Block, Stmt, Async, AtAsync, At, Finish, Term, Vars, started_by, Tree, AllowedAct, own_path, is_kept, is_on, walk, links, born_so_far}
 use Rattle.rx_base.proofs.Elements.{tails-are}
 use Rattle.rx_rules.specs.declared.entries.Act.{Act}
 use Rattle.rx_rules.specs.declared.entries.Act.TheVariants.{Open, At as Calling, Spawn, Arrive, Wait, Release, End, Print as Printed, Census as Counted}
@@ -55,17 +55,7 @@ async-of (Async body) h w = refl
 async-of (AtAsync place body) h w = refl
 async-of (At place body) h w = absurd (w refl)
 async-of (Finish body) h w = absurd (w refl)
-async-of (SetTo name value) h w = absurd (true≢false (sym h))
-async-of (New name words) h w = absurd (true≢false (sym h))
-async-of (Get name target index) h w = absurd (true≢false (sym h))
-async-of (Put target index value) h w = absurd (true≢false (sym h))
-async-of (Forget target) h w = absurd (true≢false (sym h))
-async-of (Census name) h w = absurd (true≢false (sym h))
-async-of (Print value) h w = absurd (true≢false (sym h))
-async-of (Throw value) h w = absurd (true≢false (sym h))
-async-of (If test first other) h w = absurd (true≢false (sym h))
-async-of (Repeat times body) h w = absurd (true≢false (sym h))
-async-of (Try body dead_only handler) h w = absurd (true≢false (sym h))
+async-of _ h w = absurd (true≢false (sym h))
 
 cancel : (x a b : List ℕ) → x ++ a ≡ x ++ b → a ≡ b
 cancel [] a b e = e

@@ -1,25 +1,16 @@
 -- Paths that are kept: their beginnings keep it, and where one passes an `async`, a `finish` stands before that.
 use Rattle.std.proofs.Common.{◌≡◌, ℕ, zero, suc, Bool, true, false, List, [], ◌∷◌, ◌++◌, Option, Some, refl, ap, sym, subst, ◌∙◌}
 use Rattle.std.proofs.lemmas.Bool.{true≢false}
-use Rattle.rx_rules.proofs.Common.{Stmt, SetTo, New, Get, Put, Forget, Census, Print, Throw, Async, AtAsync, At, Finish, If, Repeat, Try, Block, Nothing, Then, is_kept, is_kept_in}
+use Rattle.rx_rules.proofs.Common.{Stmt, Async, AtAsync, At, Finish, If, Repeat, Try, Block, Nothing, Then, is_kept, is_kept_in}
 use Rattle.rx_history_laws.proofs.Straight.{stmt_at, stmt_in}
 
 -- a beginning that names a statement is kept too
 mutual
   pub kept-begins : (s : Stmt) (x r : List ℕ) (u : Stmt) → stmt_at s x ≡ Some u → is_kept s (x ++ r) ≡ true → is_kept s x ≡ true
-  kept-begins (SetTo name value) x r u e h = refl
-  kept-begins (New name words) x r u e h = refl
-  kept-begins (Get name target index) x r u e h = refl
-  kept-begins (Put target index value) x r u e h = refl
-  kept-begins (Forget target) x r u e h = refl
-  kept-begins (Census name) x r u e h = refl
-  kept-begins (Print value) x r u e h = refl
-  kept-begins (Throw value) x r u e h = refl
   kept-begins (Async body) x r u e h = h
   kept-begins (AtAsync place body) x r u e h = h
   kept-begins (At place body) [] r u e h = refl
   kept-begins (At place body) (i ∷ x) r u e h = kept-begins_in body i x r u e h
-  kept-begins (Finish body) x r u e h = refl
   kept-begins (If test first other) [] r u e h = refl
   kept-begins (If test first other) (zero ∷ i ∷ x) r u e h = kept-begins_in first i x r u e h
   kept-begins (If test first other) (suc zero ∷ i ∷ x) r u e h = kept-begins_in other i x r u e h
@@ -31,6 +22,7 @@ mutual
   kept-begins (Try body dead_only handler) (zero ∷ i ∷ x) r u e h = kept-begins_in body i x r u e h
   kept-begins (Try body dead_only handler) (suc zero ∷ i ∷ x) r u e h = kept-begins_in handler i x r u e h
   kept-begins (Try body dead_only handler) x r u e h = cc
+  kept-begins _ x r u e h = refl
 
   kept-begins_in : (b : Block) (i : ℕ) (x r : List ℕ) (u : Stmt) → stmt_in b i x ≡ Some u → is_kept_in b i (x ++ r) ≡ true → is_kept_in b i x ≡ true
   kept-begins_in Nothing i x r u e h = cc

@@ -1,7 +1,7 @@
 -- Items that lie in a waiter: a step brings none into it that was not there, but for the statement that a request begins.
 use Rattle.std.proofs.Common.{◌≡◌, ◌⊎◌, ℕ, true, List, [], ◌∷◌, ◌++◌, Some, refl, ap, sym, subst, ◌∙◌, inl, inr}
 use Rattle.std.proofs.lemmas.Bool.{true≢false}
-use Rattle.rx_rules.proofs.Common.{Fault, Block, Stmt, SetTo, New, Get, Put, Forget, Census, Print, Throw, Async, AtAsync, At, Finish, If, Repeat, Try, Term, Empty, Run, Raise, Turns, Trying, Body, Held, at, begins, granted, stmt_granted, body_granted, or_raise, child, stmt_child, is_kept}
+use Rattle.rx_rules.proofs.Common.{Fault, Block, Stmt, Async, AtAsync, At, Finish, Term, Empty, Run, Raise, Turns, Trying, Body, Held, at, begins, granted, stmt_granted, body_granted, or_raise, child, stmt_child, is_kept}
 use Rattle.rx_history_laws.proofs.Straight.{code_at, stmt_at, is_waiter}
 use Rattle.rx_history_laws.proofs.Paths.{Starts, left_over, starts-cut}
 use Rattle.rx_history_laws.proofs.TermCode.{Coded, code-on}
@@ -63,40 +63,20 @@ moves-from code t after c f x u e w l =
 -- Requests: what is new lies in the statement that is begun.
 
 begun-head : (t : Term) (p : List ℕ) → begins t ≡ Some p → Head t p
-begun-head Empty p e = cc
-begun-head (Raise faults) p e = cc
 begun-head (Run stmt z rest) p e = inl (let same : z ≡ p = cc in sym same)
-begun-head (Turns b z k times rest) p e = cc
 begun-head (Trying inside dead_only handler z rest) p e = inl (begun-head inside p e)
 begun-head (Body inside rest) p e = inl (begun-head inside p e)
-begun-head (Held rest) p e = cc
+begun-head _ p e = cc
 
 granted-stmt : (stmt : Stmt) (z : List ℕ) (rest : Term) (h : List ℕ) → Head (stmt_granted stmt z rest) h → Head rest h ⊎ ((m : ℕ) × (h ≡ at z m))
 granted-stmt (Finish body) z rest h (inl k) = elim (items-heads body z 0 Empty h k) [ inl m ↦ inr m | inr n ↦ absurd n ]
 granted-stmt (Finish body) z rest h (inr k) = inl k
-granted-stmt (SetTo name value) z rest h k = inl k
-granted-stmt (New name words) z rest h k = inl k
-granted-stmt (Get name target index) z rest h k = inl k
-granted-stmt (Put target index value) z rest h k = inl k
-granted-stmt (Forget target) z rest h k = inl k
-granted-stmt (Census name) z rest h k = inl k
-granted-stmt (Print value) z rest h k = inl k
-granted-stmt (Throw value) z rest h k = inl k
-granted-stmt (Async body) z rest h k = inl k
-granted-stmt (AtAsync place body) z rest h k = inl k
-granted-stmt (At place body) z rest h k = inl k
-granted-stmt (If test first other) z rest h k = inl k
-granted-stmt (Repeat times body) z rest h k = inl k
-granted-stmt (Try body dead_only handler) z rest h k = inl k
+granted-stmt _ z rest h k = inl k
 
 body-head : (inside after rest : Term) (h : List ℕ) → Head (body_granted inside after rest) h → Head after h ⊎ Head rest h
 body-head Empty after rest h k = inr k
 body-head (Raise faults) after rest h k = inr k
-body-head (Run stmt y more) after rest h k = k
-body-head (Turns b y m times more) after rest h k = k
-body-head (Trying t1 d1 h1 x1 r1) after rest h k = k
-body-head (Body t1 r1) after rest h k = k
-body-head (Held r1) after rest h k = k
+body-head _ after rest h k = k
 
 raised-head : (faults : List Fault) (rest : Term) (h : List ℕ) → Head (or_raise faults rest) h → Head rest h
 raised-head [] rest h k = k
@@ -104,10 +84,7 @@ raised-head (f ∷ fs) rest h k = absurd k
 
 -- an item after a request was there, or lies in the statement that the request begins
 granted-head : (faults : List Fault) (t : Term) (h : List ℕ) → Head (granted faults t) h → Head t h ⊎ ((p : List ℕ) × (begins t ≡ Some p) × ((m : ℕ) × (h ≡ at p m)))
-granted-head faults Empty h k = inl k
-granted-head faults (Raise f) h k = inl k
 granted-head faults (Run stmt z rest) h k = elim (granted-stmt stmt z rest h k) [ inl a ↦ inl (inr a) | inr b ↦ inr (z, refl, b) ]
-granted-head faults (Turns b z m times rest) h k = inl k
 granted-head faults (Trying inside dead_only handler z rest) h (inl k) = elim (granted-head faults inside h k) [ inl a ↦ inl (inl a) | inr b ↦ inr b ]
 granted-head faults (Trying inside dead_only handler z rest) h (inr k) = inl (inr k)
 granted-head faults (Body inside rest) h k = elim (body-head inside (granted faults inside) rest h k) [
@@ -115,32 +92,19 @@ granted-head faults (Body inside rest) h k = elim (body-head inside (granted fau
   | inr b ↦ inl (inr b)
 ]
 granted-head faults (Held rest) h k = inl (raised-head faults rest h k)
+granted-head faults _ h k = inl k
 
 stmt-child-head : (stmt : Stmt) (z h : List ℕ) → Head (stmt_child stmt z) h → (m : ℕ) × (h ≡ at z m)
 stmt-child-head (Async body) z h k = elim (items-heads body z 0 Empty h k) [ inl m ↦ m | inr n ↦ absurd n ]
 stmt-child-head (AtAsync place body) z h k = elim (items-heads body z 0 Empty h k) [ inl m ↦ m | inr n ↦ absurd n ]
 stmt-child-head (At place body) z h k = elim (items-heads body z 0 Empty h k) [ inl m ↦ m | inr n ↦ absurd n ]
-stmt-child-head (SetTo name value) z h k = absurd k
-stmt-child-head (New name words) z h k = absurd k
-stmt-child-head (Get name target index) z h k = absurd k
-stmt-child-head (Put target index value) z h k = absurd k
-stmt-child-head (Forget target) z h k = absurd k
-stmt-child-head (Census name) z h k = absurd k
-stmt-child-head (Print value) z h k = absurd k
-stmt-child-head (Throw value) z h k = absurd k
-stmt-child-head (Finish body) z h k = absurd k
-stmt-child-head (If test first other) z h k = absurd k
-stmt-child-head (Repeat times body) z h k = absurd k
-stmt-child-head (Try body dead_only handler) z h k = absurd k
+stmt-child-head _ z h k = absurd k
 
 pub child-head : (t : Term) (h : List ℕ) → Head (child t) h → (p : List ℕ) × (begins t ≡ Some p) × ((m : ℕ) × (h ≡ at p m))
-child-head Empty h k = absurd k
-child-head (Raise faults) h k = absurd k
 child-head (Run stmt z rest) h k = (z, refl, stmt-child-head stmt z h k)
-child-head (Turns b z m times rest) h k = absurd k
 child-head (Trying inside dead_only handler z rest) h k = child-head inside h k
 child-head (Body inside rest) h k = child-head inside h k
-child-head (Held rest) h k = absurd k
+child-head _ h k = absurd k
 
 -- a beginning of p.m is p, or p goes on from it
 pub part-of : (p x : List ℕ) (m j : ℕ) (r : List ℕ) → at p m ≡ x ++ j ∷ r → (x ≡ p) ⊎ ((i : ℕ) × (y : List ℕ) × (p ≡ x ++ i ∷ y) × Starts p (x ++ j ∷ r))
@@ -195,14 +159,11 @@ run_opens : (stmt : Stmt) (z : List ℕ) (rest : Term) → opens_one (Run stmt z
 run_opens stmt z rest = refl
 
 pub waiter-opens : (code : Block) (t : Term) (x : List ℕ) (u : Stmt) → Coded code t → begins t ≡ Some x → code_at code x ≡ Some u → is_waiter u ≡ true → opens_one t ≡ true
-waiter-opens code Empty x u c b e w = cc
-waiter-opens code (Raise faults) x u c b e w = cc
 waiter-opens code (Run stmt z rest) x u c b e w =
     let same : z ≡ x = cc in
     let one : Some stmt ≡ Some u = sym c.0 ∙ ap (code_at code) same ∙ e in
     let it : stmt ≡ u = cc in
     sym (run_opens stmt z rest) ∙ stmt-opens stmt u x z it w
-waiter-opens code (Turns d z k times rest) x u c b e w = cc
 waiter-opens code (Trying inside dead_only handler z rest) x u c b e w = waiter-opens code inside x u c.0 b e w
 waiter-opens code (Body inside rest) x u c b e w = waiter-opens code inside x u c.0 b e w
-waiter-opens code (Held rest) x u c b e w = cc
+waiter-opens code _ x u c b e w = cc

@@ -1,5 +1,5 @@
 -- Scopes as numbers with parents, and the chains in them.
-use Rattle.std.proofs.Common.{◌≡◌, ℕ, ◌<◌, ◌≤◌, Bool, true, false, cond, not, ◌&&◌, ◌||◌, ◌==◌, List, [], ◌∷◌, ◌++◌, map, filter, Option, Some, None, option_map, refl, ap, sym, subst, ◌∙◌, arith, inl, inr}
+use Rattle.std.proofs.Common.{◌≡◌, ℕ, ◌<◌, ◌≤◌, Bool, true, false, cond, ◌&&◌, ◌||◌, ◌==◌, List, [], ◌∷◌, ◌++◌, map, filter, Option, Some, None, option_map, refl, ap, sym, subst, ◌∙◌, arith, inl, inr}
 use Rattle.std.specs.List.{list_any, list_all, find}
 use Rattle.std.proofs.lemmas.Bool.{eqb-true, eq-eqb, ne_eqb, or_parts, or_cases, or_left, or_right, and_parts, cond_both, true≢false}
 use Rattle.std.proofs.lemmas.List.Folds.{list_any-append}
@@ -125,9 +125,6 @@ before_on n bs f w k s h all none =
     ]
 
 -- Scopes that go.
-
-abbrev pub stays : List Bone → ℕ → Bone → Bool
-stays bs s b = not (is_on s (nums (line bs (Some b.number))))
 
 filter_step : (keep : Bone → Bool) (b : Bone) (bs : List Bone) (w : Option ℕ) (x y : Bool) → wanted w b ≡ x → keep b ≡ y → (wanted w b ≡ true → keep b ≡ true) → (wanted w b ≡ true → line (filter keep bs) b.parent ≡ line bs b.parent) → (wanted w b ≡ false → line (filter keep bs) w ≡ line bs w) → line (filter keep (b ∷ bs)) w ≡ line (b ∷ bs) w
 filter_step keep b bs w true true ex ey kept up on = rw (ey, ex) (ap (λ l. b ∷ l) (up ex))

@@ -1,7 +1,7 @@
 -- A release that masks faults names lost places.
 use Rattle.std.proofs.Common.{◌≡◌, ◌≢◌, ℕ, zero, suc, ◌<◌, ◌≤◌, min, Bool, true, false, cond, not, ◌||◌, ◌&&◌, List, [], ◌∷◌, ◌++◌, length, filter, sum_by, slice_get, Option, Some, None, option_map, slice_index_or, All, refl, sym, ap, ◌∙◌, subst, arith}
 use Rattle.std.specs.List.{find, list_any}
-use Rattle.std.proofs.lemmas.Bool.{eqb-true, eq-eqb, true≢false, or_right, or_from, and_parts, false_from_ne_true}
+use Rattle.std.proofs.lemmas.Bool.{eq-eqb, true≢false, or_right, false_from_ne_true}
 use Rattle.rx_rules.proofs.Common.{PlaceId, TaskId, ScopeId, PlaceSet, Fault, all_places, members, Tree, is_task, is_scope, opened_by, on_chain, is_under, quiet, the_root, was_lost_at, lost_under, masked_under, WorksIn, MayFree, Allowed, made, opening, AllAllowed, Reached, IsOlder, opens}
 use Rattle.rx_base.proofs.Members.{place-at}
 use Rattle.rx_rules.specs.declared.tasks.Where.TheVariants.{At}
@@ -17,7 +17,7 @@ use Rattle.rx_tree_laws.specs.Chains.{meets, HasOpener, Opened, Falls}
 use Rattle.rx_tree_laws.specs.Sound.{Each, Inside, Sound}
 use Rattle.rx_tree_laws.proofs.Changes.{each_found, each_more}
 use Rattle.rx_tree_laws.proofs.Chains.{met_below, meets_skips}
-use Rattle.rx_tree_laws.proofs.Opening.{met_head}
+use Rattle.rx_tree_laws.proofs.Opening.{met_head, root_unopened}
 use Rattle.rx_tree_laws.proofs.Releasing.{each_below, each_both, each_none, on_meets}
 use Rattle.rx_tree_laws.proofs.Reach.{fits_of}
 use Rattle.rx_tree_laws.proofs.Reached.{sound}
@@ -112,18 +112,6 @@ after_own T t s g h own o a =
     let last : Each (λ k. opened_by t k ≡ true → k.number.0 ≤ g.number.0) T.scopes = newest (opened_by t) T.next_scope T.scopes g h.falls own.0 in
     subst (λ (v : ScopeId). Each (λ k. opened_by o k ≡ true → k.number.0 ≤ v.0) T.scopes) own.1
     (subst (λ (v : TaskId). Each (λ k. opened_by v k ≡ true → k.number.0 ≤ g.number.0) T.scopes) (sym same) last)
-
--- no task has opened the root
-root_unopened : (ts : List Task) (gs : List Scope) (o : TaskId) → Opened ts gs → list_any (λ k. is_scope the_root k && opened_by o k) gs ≡ false
-root_unopened ts [] o h = refl
-root_unopened ts (g ∷ gs) o h =
-    or_from (is_scope the_root g && opened_by o g) (list_any (λ k. is_scope the_root k && opened_by o k) gs)
-    (false_from_ne_true (is_scope the_root g && opened_by o g) (λ e. let parts = and_parts (is_scope the_root g) (opened_by o g) e in unopened g.opener refl h.0 (eqb-true g.number.0 0 parts.0) parts.1))
-    (root_unopened ts gs o h.1)
-  where
-    unopened : (w : Option TaskId) → g.opener ≡ w → HasOpener ts g gs w → g.number.0 ≡ 0 → opened_by o g ≡ true → ⊥
-    unopened None e k first mine = true≢false (sym mine ∙ rw e)
-    unopened (Some v) e k first mine = let low : k.task.under.0 < g.number.0 = k.older in omega (arith, low, first)
 
 after_root : (T : Tree) → Sound T → NoneAfter T.scopes the_root
 after_root T h o a = absurd (true≢false (sym a ∙ root_unopened T.tasks T.scopes o h.opened))

@@ -3,7 +3,7 @@ use Rattle.std.proofs.Common.{◌≡◌, ◌⊎◌, ℕ, Bool, true, false, cond
 use Rattle.std.proofs.lemmas.Bool.{eqb-true, eq-eqb, cond_both, or_cases, or_left, or_right, true≢false}
 use Rattle.rx_rules.proofs.Common.{TaskId, is_on, own_path}
 use Rattle.rx_rules.specs.declared.entries.Act.{Act}
-use Rattle.rx_rules.specs.declared.entries.Act.TheVariants.{Open, At as Calling, Spawn, Arrive, Wait, Release, End, Print as Printed, Census as Counted}
+use Rattle.rx_rules.specs.declared.entries.Act.TheVariants.{Open, At as Calling, Release}
 use Rattle.rx_rules.specs.declared.entries.Entry.{Entry}
 use Rattle.rx_rules.specs.declared.entries.Entry.TheVariants.{Step, Root, Death, Join}
 use Rattle.rx_history_laws.proofs.Stacks.{stack_after, open_paths, Stacked}
@@ -15,13 +15,8 @@ less_one (m ∷ ms) = ms
 abbrev pub opened_after : Act → List (ℕ × List ℕ) → List (ℕ × List ℕ)
 opened_after (Open s r x) ms = (s.0, x) ∷ ms
 opened_after (Calling from to s r c x) ms = (s.0, x) ∷ ms
-opened_after (Spawn c s from to x) ms = ms
-opened_after (Arrive p) ms = ms
-opened_after (Wait s thrown) ms = ms
 opened_after (Release s lost masked thrown) ms = less_one ms
-opened_after (End thrown) ms = ms
-opened_after (Printed value x) ms = ms
-opened_after (Counted places x) ms = ms
+opened_after _ ms = ms
 
 abbrev pub opened : List Entry → ℕ → List (ℕ × List ℕ)
 opened [] c = []
@@ -39,16 +34,9 @@ nums_of [] = []
 nums_of (m ∷ ms) = m.0 ∷ nums_of ms
 
 after-paths : (act : Act) (ms : List (ℕ × List ℕ)) → paths_of (opened_after act ms) ≡ stack_after act (paths_of ms)
-after-paths (Open s r x) ms = refl
-after-paths (Calling from to s r c x) ms = refl
-after-paths (Spawn c s from to x) ms = refl
-after-paths (Arrive p) ms = refl
-after-paths (Wait s thrown) ms = refl
 after-paths (Release s lost masked thrown) [] = refl
 after-paths (Release s lost masked thrown) (m ∷ ms) = refl
-after-paths (End thrown) ms = refl
-after-paths (Printed value x) ms = refl
-after-paths (Counted places x) ms = refl
+after-paths _ ms = refl
 
 paths_either : (y : Bool) (ms ns : List (ℕ × List ℕ)) (ps qs : List (List ℕ)) → paths_of ms ≡ ps → paths_of ns ≡ qs → paths_of (cond y ms ns) ≡ cond y ps qs
 paths_either true ms ns ps qs h k = h
@@ -95,27 +83,16 @@ nums-on s (m ∷ ms) h =
 abbrev pub scope_in : Act → Option ℕ
 scope_in (Open s r x) = Some s.0
 scope_in (Calling from to s r c x) = Some s.0
-scope_in (Spawn c s from to x) = None
-scope_in (Arrive p) = None
-scope_in (Wait s thrown) = None
-scope_in (Release s lost masked thrown) = None
-scope_in (End thrown) = None
-scope_in (Printed value x) = None
-scope_in (Counted places x) = None
+scope_in _ = None
 
 after-on : (act : Act) (ms : List (ℕ × List ℕ)) (s : ℕ) (x : List ℕ) → On s x (opened_after act ms) → ((scope_in act ≡ Some s) × (own_path act ≡ x ∷ [])) ⊎ On s x ms
 after-on (Open n r y) ms s x (inl e) = inl (ap Some (sym e.0), ap (λ v. v ∷ []) (sym e.1))
 after-on (Open n r y) ms s x (inr h) = inr h
 after-on (Calling from to n r c y) ms s x (inl e) = inl (ap Some (sym e.0), ap (λ v. v ∷ []) (sym e.1))
 after-on (Calling from to n r c y) ms s x (inr h) = inr h
-after-on (Spawn c n from to y) ms s x h = inr h
-after-on (Arrive p) ms s x h = inr h
-after-on (Wait n thrown) ms s x h = inr h
 after-on (Release n lost masked thrown) [] s x h = inr h
 after-on (Release n lost masked thrown) (m ∷ ms) s x h = inr (inr h)
-after-on (End thrown) ms s x h = inr h
-after-on (Printed value y) ms s x h = inr h
-after-on (Counted places y) ms s x h = inr h
+after-on _ ms s x h = inr h
 
 -- the entry opens scope s with the statement at x, for task c
 pub record New (t : TaskId) (act : Act) (c s : ℕ) (x : List ℕ) : Type 0 where

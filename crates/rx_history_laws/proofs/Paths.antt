@@ -91,11 +91,11 @@ comes-not_below (i ∷ x) (j ∷ y) (inl h) (inr k) = let e : j ≡ i = k.0 in o
 comes-not_below (i ∷ x) (j ∷ y) (inr h) (inl k) = let e : i ≡ j = h.0 in omega arith
 comes-not_below (i ∷ x) (j ∷ y) (inr h) (inr k) = comes-not_below x y h.1 k.1
 
-below-suc : (i j : ℕ) (x y : List ℕ) → Below (i ∷ x) (j ∷ y) → Below (suc i ∷ x) (suc j ∷ y)
+pub below-suc : (i j : ℕ) (x y : List ℕ) → Below (i ∷ x) (j ∷ y) → Below (suc i ∷ x) (suc j ∷ y)
 below-suc i j x y (inl h) = inl (omega arith)
 below-suc i j x y (inr h) = inr (ap suc h.0, h.1)
 
-below_turn : (k m i j : ℕ) (x y : List ℕ) (inside kept e l : Bool) → (k == m) ≡ e → nat_lt k m ≡ l → (inside ≡ true → Below (i ∷ x) (j ∷ y)) → cond e inside (cond l kept false) ≡ true → Below (k ∷ i ∷ x) (m ∷ j ∷ y)
+pub below_turn : (k m i j : ℕ) (x y : List ℕ) (inside kept e l : Bool) → (k == m) ≡ e → nat_lt k m ≡ l → (inside ≡ true → Below (i ∷ x) (j ∷ y)) → cond e inside (cond l kept false) ≡ true → Below (k ∷ i ∷ x) (m ∷ j ∷ y)
 below_turn k m i j x y inside kept true l he hl f h = inr (eqb-true k m he, f h)
 below_turn k m i j x y inside kept false true he hl f h = inl (ltb-true k m hl)
 below_turn k m i j x y inside kept false false he hl f h = absurd (true≢false (sym h))

@@ -1,5 +1,5 @@
 -- What an entry of a task tells, and what the task and the one that it starts have left.
-use Rattle.rx_rules.proofs.Common.{PlaceSet, ScopeId, PlaceId, TaskId, Fault, Block, Stmt, SetTo, New, Get, Put, Forget, Census as Counts, Print as Prints, Throw, Async, AtAsync, At, Finish, If, Repeat, Try, Term, Empty, Raise, Run, Turns, Trying, Body, Held, Does, Local, Makes, Gets, Puts, Forgets, Opens, Calls as Asks, Spawns, Waits, Releases, Prints as Printing, Counts as Counting, Done, Vars, at, does, begins, granted, stmt_granted, child, stmt_child, within, trying_does, body_does, stmt_does, Plays, stops, BeginsWithArrival, StartsSo, brought, started_by, own_path}
+use Rattle.rx_rules.proofs.Common.{PlaceSet, ScopeId, PlaceId, TaskId, Fault, Block, Stmt, Async, AtAsync, At, Finish, Term, Empty, Raise, Run, Trying, Body, Does, Opens, Calls as Asks, Spawns, Waits, Releases, Prints as Printing, Counts as Counting, Vars, at, does, begins, granted, stmt_granted, child, stmt_child, within, trying_does, body_does, stmt_does, Plays, stops, BeginsWithArrival, StartsSo, brought, started_by, own_path}
 use Rattle.rx_history_laws.proofs.Heads.{Head}
 use Rattle.rx_history_laws.proofs.Opening.{is_opening, finish-opens, fits-opening}
 use Rattle.std.proofs.Common.{◌≤◌, ◌≡◌, false, ◌⊎◌, ℕ, suc, Bool, true, List, [], ◌∷◌, ◌++◌, Some, None, slice_get, refl, ap, sym, subst, ◌∙◌, arith, inl, inr, append-nil}
@@ -39,50 +39,16 @@ pub record Passes (Q P : Bool → PlaceId → List (ℕ × Cell × List ℕ) →
 
 abbrev pub NotOpens : Does → Type 0
 NotOpens Opens = ⊥
-NotOpens (Local left vars) = Unit {0}
-NotOpens (Makes name words) = Unit {0}
-NotOpens (Gets name target index) = Unit {0}
-NotOpens (Puts target index value) = Unit {0}
-NotOpens (Forgets target) = Unit {0}
-NotOpens (Asks place) = Unit {0}
-NotOpens (Spawns place) = Unit {0}
-NotOpens (Waits faults) = Unit {0}
-NotOpens Releases = Unit {0}
-NotOpens (Printing value) = Unit {0}
-NotOpens (Counting name) = Unit {0}
-NotOpens (Done faults) = Unit {0}
+NotOpens _ = Unit {0}
 
 not_opens-within : (f : Term → Term) (d : Does) → NotOpens (within f d) → NotOpens d
 not_opens-within f Opens h = h
-not_opens-within f (Local left vars) h = tt
-not_opens-within f (Makes name words) h = tt
-not_opens-within f (Gets name target index) h = tt
-not_opens-within f (Puts target index value) h = tt
-not_opens-within f (Forgets target) h = tt
-not_opens-within f (Asks place) h = tt
-not_opens-within f (Spawns place) h = tt
-not_opens-within f (Waits faults) h = tt
-not_opens-within f Releases h = tt
-not_opens-within f (Printing value) h = tt
-not_opens-within f (Counting name) h = tt
-not_opens-within f (Done faults) h = tt
+not_opens-within f _ h = tt
 
 stmt-left : (vars : Vars) (here : ℕ) (stmt : Stmt) (x : List ℕ) (rest : Term) → NotOpens (stmt_does vars here stmt x rest) → Later x rest → Later x (stmt_granted stmt x rest)
 stmt-left vars here (Finish body) x rest n l = absurd n
 stmt-left vars here (At place body) x rest n l = l
-stmt-left vars here (SetTo name value) x rest n l = l
-stmt-left vars here (New name words) x rest n l = l
-stmt-left vars here (Get name target index) x rest n l = l
-stmt-left vars here (Put target index value) x rest n l = l
-stmt-left vars here (Forget target) x rest n l = l
-stmt-left vars here (Counts name) x rest n l = l
-stmt-left vars here (Prints value) x rest n l = l
-stmt-left vars here (Throw value) x rest n l = l
-stmt-left vars here (Async body) x rest n l = l
-stmt-left vars here (AtAsync place body) x rest n l = l
-stmt-left vars here (If test first other) x rest n l = l
-stmt-left vars here (Repeat times body) x rest n l = l
-stmt-left vars here (Try body dead_only handler) x rest n l = l
+stmt-left vars here _ x rest n l = l
 
 trying-left : (z : List ℕ) (inside after : Term) (x : List ℕ) (dead_only : Bool) (handler : Block) (rest : Term) → Sorted (Trying inside dead_only handler x rest) → Todo inside z → Later z after → Later z (Trying after dead_only handler x rest)
 trying-left z inside after x dead_only handler rest s i l y h =
@@ -102,27 +68,16 @@ body-left z inside after rest s i l y h =
 trying-asks : (vars : Vars) (d : Does) (inside : Term) (dead_only : Bool) (handler : Block) (x : List ℕ) (rest : Term) (z : List ℕ) → begins inside ≡ Some z → NotOpens (trying_does vars inside d dead_only handler x rest) → NotOpens d
 trying-asks vars d Empty dead_only handler x rest z e n = cc
 trying-asks vars d (Raise faults) dead_only handler x rest z e n = cc
-trying-asks vars d (Run stmt y more) dead_only handler x rest z e n = not_opens-within (λ t. Trying t dead_only handler x rest) d n
-trying-asks vars d (Turns b y k times more) dead_only handler x rest z e n = not_opens-within (λ t. Trying t dead_only handler x rest) d n
-trying-asks vars d (Trying t1 d1 h1 x1 r1) dead_only handler x rest z e n = not_opens-within (λ t. Trying t dead_only handler x rest) d n
-trying-asks vars d (Body t1 r1) dead_only handler x rest z e n = not_opens-within (λ t. Trying t dead_only handler x rest) d n
-trying-asks vars d (Held r1) dead_only handler x rest z e n = not_opens-within (λ t. Trying t dead_only handler x rest) d n
+trying-asks vars d _ dead_only handler x rest z e n = not_opens-within (λ t. Trying t dead_only handler x rest) d n
 
 body-asks : (d : Does) (inside rest : Term) (z : List ℕ) → begins inside ≡ Some z → NotOpens (body_does inside d rest) → NotOpens d
 body-asks d Empty rest z e n = cc
 body-asks d (Raise faults) rest z e n = cc
-body-asks d (Run stmt y more) rest z e n = not_opens-within (λ t. Body t rest) d n
-body-asks d (Turns b y k times more) rest z e n = not_opens-within (λ t. Body t rest) d n
-body-asks d (Trying t1 d1 h1 x1 r1) rest z e n = not_opens-within (λ t. Body t rest) d n
-body-asks d (Body t1 r1) rest z e n = not_opens-within (λ t. Body t rest) d n
-body-asks d (Held r1) rest z e n = not_opens-within (λ t. Body t rest) d n
+body-asks d _ rest z e n = not_opens-within (λ t. Body t rest) d n
 
 pub asked-left : (vars : Vars) (here : ℕ) (faults : List Fault) (t : Term) (z : List ℕ) → begins t ≡ Some z → NotOpens (does vars here t) → Sorted t → Later z (granted faults t)
-asked-left vars here faults Empty z e n s = cc
-asked-left vars here faults (Raise f) z e n s = cc
 asked-left vars here faults (Run stmt x rest) z e n s =
     let same : x ≡ z = cc in subst (λ v. Later v (stmt_granted stmt x rest)) same (stmt-left vars here stmt x rest n s.1)
-asked-left vars here faults (Turns b x k times rest) z e n s = cc
 asked-left vars here faults (Trying inside dead_only handler x rest) z e n s =
     trying-left z inside (granted faults inside) x dead_only handler rest s (begins-todo inside z e)
     (asked-left vars here faults inside z e (trying-asks vars (does vars here inside) inside dead_only handler x rest z e n) s.0)
@@ -130,7 +85,7 @@ asked-left vars here faults (Body inside rest) z e n s =
     subst (Later z) (goes_on inside (granted faults inside) rest z e)
     (body-left z inside (granted faults inside) rest s (begins-todo inside z e)
     (asked-left vars here faults inside z e (body-asks (does vars here inside) inside rest z e n) s.0))
-asked-left vars here faults (Held rest) z e n s = cc
+asked-left vars here faults _ z e n s = cc
 
 -- a path that an entry has of its own is the statement that the term begins
 
@@ -233,27 +188,13 @@ stmt-shut : (code : Block) (stmt : Stmt) (x : List ℕ) → code_at code x ≡ S
 stmt-shut code (Async body) x e y h = (Async body, e, refl)
 stmt-shut code (AtAsync place body) x e y h = (AtAsync place body, e, refl)
 stmt-shut code (At place body) x e y h = (At place body, e, refl)
-stmt-shut code (Finish body) x e y h = absurd h
-stmt-shut code (SetTo name value) x e y h = absurd h
-stmt-shut code (New name words) x e y h = absurd h
-stmt-shut code (Get name target index) x e y h = absurd h
-stmt-shut code (Put target index value) x e y h = absurd h
-stmt-shut code (Forget target) x e y h = absurd h
-stmt-shut code (Counts name) x e y h = absurd h
-stmt-shut code (Prints value) x e y h = absurd h
-stmt-shut code (Throw value) x e y h = absurd h
-stmt-shut code (If test first other) x e y h = absurd h
-stmt-shut code (Repeat times body) x e y h = absurd h
-stmt-shut code (Try body dead_only handler) x e y h = absurd h
+stmt-shut code _ x e y h = absurd h
 
 child-shut : (code : Block) (t : Term) (x : List ℕ) → begins t ≡ Some x → Coded code t → (y : List ℕ) → Todo (child t) y → (u : Stmt) × (code_at code x ≡ Some u) × (is_shut u ≡ true)
-child-shut code Empty x b c y h = absurd h
-child-shut code (Raise faults) x b c y h = absurd h
 child-shut code (Run stmt z rest) x b c y h = let same : z ≡ x = cc in stmt-shut code stmt x (subst (λ v. code_at code v ≡ Some stmt) same c.0) y (subst (λ v. Todo (stmt_child stmt v) y) same h)
-child-shut code (Turns d z k times rest) x b c y h = absurd h
 child-shut code (Trying inside dead_only handler z rest) x b c y h = child-shut code inside x b c.0 y h
 child-shut code (Body inside rest) x b c y h = child-shut code inside x b c.0 y h
-child-shut code (Held rest) x b c y h = absurd h
+child-shut code _ x b c y h = absurd h
 
 child-of : (starts : List (Term × Vars)) (here : PlaceId) (vars : Vars) (t asking : Term) (act : Act) (fresh : List (List ℕ)) (x : List ℕ) → begins asking ≡ Some x → own_path act ≡ x ∷ [] → Sorted asking → Shrinks t asking → InTurn t fresh asking → ((code : Block) → Coded code t → Coded code asking) → ((ps : List (List ℕ)) → Nested t ps → Nested asking ps) → ((code : Block) → Coded code t → Moves code t asking) → Fits here asking (does vars here.0 asking) act → StartsSo starts asking vars act → (c : TaskId) → started_by act ≡ Some c → ChildOf starts c t (granted (brought act) asking) (fresh ++ own_path act)
 child-of starts here vars t asking act fresh x b o s sh i k stay go fits so c e =

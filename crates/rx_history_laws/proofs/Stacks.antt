@@ -1,7 +1,8 @@
 -- The scopes that a task has opened and not released, as the entries tell: the paths of their statements, the newest first.
-use Rattle.std.proofs.Common.{◌≡◌, ◌⊎◌, ℕ, ℤ, Bool, true, false, cond, ◌==◌, List, [], ◌∷◌, ◌++◌, Option, Some, None, Result, Ok, Err, refl, ap, sym, subst, ◌∙◌, arith, inl, inr}
+use Rattle.std.proofs.Common.{◌≡◌, ◌⊎◌, ℕ, Bool, true, false, cond, ◌==◌, List, [], ◌∷◌, ◌++◌, Some, None, refl, ap, sym, subst, ◌∙◌, arith, inl, inr}
 use Rattle.std.proofs.lemmas.Bool.{true≢false}
-use Rattle.rx_rules.proofs.Common.{PlaceId, ScopeId, PlaceSet, Fault, Block, Stmt, SetTo, New, Get, Put, Forget, Census, Print, Throw, Async, AtAsync, At, Finish, If, Repeat, Try, begins, Term, at, Empty, Run, Raise, Turns, Trying, Body, Held, Vars, Does, Local, Makes, Gets, Puts, Forgets, Opens, Calls, Spawns, Waits, Releases, Prints, Counts, Done, does, stmt_does, within, with_number, with_place, granted, child, stmt_child, eval, target_of, ref_in, value_of, brought, own_path}
+use Rattle.rx_rules.proofs.Common.{PlaceId, ScopeId, PlaceSet, Fault, Block, Stmt, Async, AtAsync, At, begins, Term, at, Empty, Run, Raise, Trying, Body, Held, Vars, Does, Opens, Calls, Spawns, Waits, Releases, Prints, Counts, Done, does, granted, child, stmt_child, brought, own_path}
+use Rattle.rx_rules.proofs.StepRules.{StepRule, IsAsking, GoesOn, empty, raised, counts, prints, spawns, spawns_at, calls, opens, asks_in_try, waits, waits_raised, asks_in_body, releases, rule_of, granted_inside}
 use Rattle.rx_rules.specs.declared.entries.Act.{Act}
 use Rattle.rx_rules.specs.declared.entries.Act.TheVariants.{Open, At as Calling, Spawn, Arrive, Wait, Release, End, Print as Printed, Census as Counted}
 use Rattle.rx_rules.specs.declared.entries.Entry.{Entry}
@@ -18,13 +19,8 @@ rest_of (p ∷ ps) = ps
 abbrev pub stack_after : Act → List (List ℕ) → List (List ℕ)
 stack_after (Open s r x) ps = x ∷ ps
 stack_after (Calling from to s r c x) ps = x ∷ ps
-stack_after (Spawn c s from to x) ps = ps
-stack_after (Arrive p) ps = ps
-stack_after (Wait s thrown) ps = ps
 stack_after (Release s lost masked thrown) ps = rest_of ps
-stack_after (End thrown) ps = ps
-stack_after (Printed value x) ps = ps
-stack_after (Counted places x) ps = ps
+stack_after _ ps = ps
 
 abbrev pub open_paths : List Entry → ℕ → List (List ℕ)
 open_paths [] c = []
@@ -56,32 +52,18 @@ stacked-after (Open s r y) ps x (inl h) = inl (ap (λ v. v ∷ []) (sym h))
 stacked-after (Open s r y) ps x (inr h) = inr h
 stacked-after (Calling from to s r c y) ps x (inl h) = inl (ap (λ v. v ∷ []) (sym h))
 stacked-after (Calling from to s r c y) ps x (inr h) = inr h
-stacked-after (Spawn c s from to y) ps x h = inr h
-stacked-after (Arrive p) ps x h = inr h
-stacked-after (Wait s thrown) ps x h = inr h
 stacked-after (Release s lost masked thrown) [] x h = inr h
 stacked-after (Release s lost masked thrown) (p ∷ ps) x h = inr (inr h)
-stacked-after (End thrown) ps x h = inr h
-stacked-after (Printed value y) ps x h = inr h
-stacked-after (Counted places y) ps x h = inr h
+stacked-after _ ps x h = inr h
 
 -- What each request does to the open scopes of the term that makes it.
 
 abbrev is_bare : Term → Bool
 is_bare Empty = true
 is_bare (Raise faults) = true
-is_bare (Run stmt x rest) = false
-is_bare (Turns body x k times rest) = false
-is_bare (Trying inside dead_only handler x rest) = false
-is_bare (Body inside rest) = false
-is_bare (Held rest) = false
+is_bare _ = false
 
 abbrev Asked : Does → Term → Type 0
-Asked (Local left vars) t = Unit {0}
-Asked (Makes name words) t = Unit {0}
-Asked (Gets name target index) t = Unit {0}
-Asked (Puts target index value) t = Unit {0}
-Asked (Forgets target) t = Unit {0}
 Asked Opens t = opens_one t ≡ true
 Asked (Calls place) t = opens_one t ≡ true
 Asked (Spawns place) t = opens_one t ≡ false
@@ -90,94 +72,44 @@ Asked (Counts name) t = opens_one t ≡ false
 Asked (Waits faults) t = (begins t ≡ None) × ((ps : List (List ℕ)) → Nested t ps → Nested (granted [] t) ps)
 Asked Releases t = (begins t ≡ None) × (Nested t [] → ⊥) × ((faults : List Fault) (ps : List (List ℕ)) (p : List ℕ) → Nested t (ps ++ p ∷ []) → Nested (granted faults t) ps × Later p (granted faults t))
 Asked (Done faults) t = is_bare t ≡ true
+Asked _ t = Unit {0}
 
-asked-number : (t : Term) (vars : Vars) (o : Option ℤ) (f : ℤ → Does) → ((z : ℤ) → Asked (f z) t) → Asked (with_number vars o f) t
-asked-number t vars (Some z) f h = h z
-asked-number t vars None f h = tt
-
-asked-place : (t : Term) (vars : Vars) (o : Result ℕ Fault) (f : ℕ → Does) → ((p : ℕ) → Asked (f p) t) → Asked (with_place vars o f) t
-asked-place t vars (Ok p) f h = h p
-asked-place t vars (Err fault) f h = tt
-
-asked_if : (t : Term) (vars : Vars) (d : Does) (after : Term) (b : Bool) → Asked d t → Asked (cond b d (Local after vars)) t
-asked_if t vars d after true h = h
-asked_if t vars d after false h = tt
-
-asked-stmt : (vars : Vars) (here : ℕ) (stmt : Stmt) (x : List ℕ) (rest : Term) → Asked (stmt_does vars here stmt x rest) (Run stmt x rest)
-asked-stmt vars here (SetTo name value) x rest = asked-number (Run (SetTo name value) x rest) vars (eval vars here value) _ (λ z. tt)
-asked-stmt vars here (New name words) x rest = tt
-asked-stmt vars here (Get name target index) x rest =
-    asked-number (Run (Get name target index) x rest) vars (eval vars here index) _
-    (λ z. asked_if (Run (Get name target index) x rest) vars (Gets name (ref_in (value_of vars target)) z) _ ((ref_in (value_of vars target)).home.0 == here) tt)
-asked-stmt vars here (Put target index value) x rest =
-    asked-number (Run (Put target index value) x rest) vars (eval vars here index) _
-    (λ k. asked-number (Run (Put target index value) x rest) vars (eval vars here value) _ (λ z. asked_if (Run (Put target index value) x rest) vars (Puts (ref_in (value_of vars target)) k z) _ ((ref_in (value_of vars target)).home.0 == here) tt))
-asked-stmt vars here (Forget target) x rest = asked_if (Run (Forget target) x rest) vars (Forgets (ref_in (value_of vars target))) _ ((ref_in (value_of vars target)).home.0 == here) tt
-asked-stmt vars here (Census name) x rest = refl
-asked-stmt vars here (Print value) x rest = asked-number (Run (Print value) x rest) vars (eval vars here value) _ (λ z. refl)
-asked-stmt vars here (Throw value) x rest = asked-number (Run (Throw value) x rest) vars (eval vars here value) _ (λ z. tt)
-asked-stmt vars here (Async body) x rest = refl
-asked-stmt vars here (AtAsync place body) x rest = asked-place (Run (AtAsync place body) x rest) vars (target_of (eval vars here place) vars.places) _ (λ p. refl)
-asked-stmt vars here (At place body) x rest = asked-place (Run (At place body) x rest) vars (target_of (eval vars here place) vars.places) _ (λ p. refl)
-asked-stmt vars here (Finish body) x rest = refl
-asked-stmt vars here (If test first other) x rest = asked-number (Run (If test first other) x rest) vars (eval vars here test) _ (λ z. tt)
-asked-stmt vars here (Repeat times body) x rest = tt
-asked-stmt vars here (Try body dead_only handler) x rest = tt
-
-asked-trying : (d : Does) (inside : Term) (dead_only : Bool) (handler : Block) (x : List ℕ) (rest : Term) → is_bare inside ≡ false → Sorted (Trying inside dead_only handler x rest) → Asked d inside → Asked (within (λ t. Trying t dead_only handler x rest) d) (Trying inside dead_only handler x rest)
-asked-trying (Local left vars) inside dead_only handler x rest b s h = tt
-asked-trying (Makes name words) inside dead_only handler x rest b s h = tt
-asked-trying (Gets name target index) inside dead_only handler x rest b s h = tt
-asked-trying (Puts target index value) inside dead_only handler x rest b s h = tt
-asked-trying (Forgets target) inside dead_only handler x rest b s h = tt
-asked-trying Opens inside dead_only handler x rest b s h = h
-asked-trying (Calls place) inside dead_only handler x rest b s h = h
-asked-trying (Spawns place) inside dead_only handler x rest b s h = h
-asked-trying (Prints value) inside dead_only handler x rest b s h = h
-asked-trying (Counts name) inside dead_only handler x rest b s h = h
-asked-trying (Waits faults) inside dead_only handler x rest b s h = (h.0, λ ps n. (h.1 ps n.0, n.1, n.2))
-asked-trying Releases inside dead_only handler x rest b s h = (
+asked-trying : (d : Does) (inside : Term) (dead_only : Bool) (handler : Block) (x : List ℕ) (rest : Term) → IsAsking d → Sorted (Trying inside dead_only handler x rest) → Asked d inside → Asked d (Trying inside dead_only handler x rest)
+asked-trying (Waits faults) inside dead_only handler x rest a s h = (h.0, λ ps n. (h.1 ps n.0, n.1, n.2))
+asked-trying Releases inside dead_only handler x rest a s h = (
   h.0,
   λ n. h.1 n.0,
   λ faults ps p n.
-      let r = h.2 faults ps p n.0 in let a = from-parts (at x 0) ps p n.2 in (
-        (r.0, n.1, a.0),
+      let r = h.2 faults ps p n.0 in let e = from-parts (at x 0) ps p n.2 in (
+        (r.0, n.1, e.0),
         λ y k. elim k [
           | inl i ↦ r.1 y i
-          | inr (inl i) ↦ starts-below (at x 0) p y a.1 (below-starts (at x 0) (at x 1) y (below-at x 0 1 (omega arith)) i)
-          | inr (inr i) ↦ starts-below x p y (starts-trans x (at x 0) p (starts-at x 0) a.1) (s.3 y i)
+          | inr (inl i) ↦ starts-below (at x 0) p y e.1 (below-starts (at x 0) (at x 1) y (below-at x 0 1 (omega arith)) i)
+          | inr (inr i) ↦ starts-below x p y (starts-trans x (at x 0) p (starts-at x 0) e.1) (s.3 y i)
         ],
       ),
 )
-asked-trying (Done faults) inside dead_only handler x rest b s h = absurd (true≢false (sym h ∙ b))
+asked-trying (Done faults) inside dead_only handler x rest a s h = absurd a
+asked-trying _ inside dead_only handler x rest a s h = h
 
-asked-body : (d : Does) (inside rest : Term) → is_bare inside ≡ false → ((faults : List Fault) → Body (granted faults inside) rest ≡ granted faults (Body inside rest)) → Sorted inside → Asked d inside → Asked (within (λ t. Body t rest) d) (Body inside rest)
-asked-body (Local left vars) inside rest b g s h = tt
-asked-body (Makes name words) inside rest b g s h = tt
-asked-body (Gets name target index) inside rest b g s h = tt
-asked-body (Puts target index value) inside rest b g s h = tt
-asked-body (Forgets target) inside rest b g s h = tt
-asked-body Opens inside rest b g s h = h
-asked-body (Calls place) inside rest b g s h = h
-asked-body (Spawns place) inside rest b g s h = h
-asked-body (Prints value) inside rest b g s h = h
-asked-body (Counts name) inside rest b g s h = h
-asked-body (Waits faults) inside rest b g s h = (h.0, goes) where
+asked-body : (d : Does) (inside rest : Term) → GoesOn inside → IsAsking d → Sorted inside → Asked d inside → Asked d (Body inside rest)
+asked-body (Waits faults) inside rest g a s h = (h.0, goes) where
   goes : (ps : List (List ℕ)) → Nested (Body inside rest) ps → Nested (granted [] (Body inside rest)) ps
   goes [] n = absurd n
-  goes (p ∷ ps) n = subst (λ u. Nested u (p ∷ ps)) (g []) (h.1 ps n.0, n.1, λ y k. n.2 y ((granted-moved [] inside s).shrinks y k), n.3, n.4)
-asked-body Releases inside rest b g s h = (h.0, λ n. n, goes) where
+  goes (p ∷ ps) n = subst (λ u. Nested u (p ∷ ps)) (granted_inside [] inside rest g) (h.1 ps n.0, n.1, λ y k. n.2 y ((granted-moved [] inside s).shrinks y k), n.3, n.4)
+asked-body Releases inside rest g a s h = (h.0, λ n. n, goes) where
   goes : (faults : List Fault) (ps : List (List ℕ)) (p : List ℕ) → Nested (Body inside rest) (ps ++ p ∷ []) → Nested (granted faults (Body inside rest)) ps × Later p (granted faults (Body inside rest))
   goes faults [] p n = absurd (h.1 n.0)
   goes faults (q ∷ ps) p n =
-      let r = h.2 faults ps p n.0 in let a = from-parts q ps p n.4 in (
-        subst (λ u. Nested u (q ∷ ps)) (g faults) (r.0, n.1, λ y k. n.2 y ((granted-moved faults inside s).shrinks y k), n.3, a.0),
-        subst (Later p) (g faults) (λ y k. elim k [
+      let r = h.2 faults ps p n.0 in let e = from-parts q ps p n.4 in (
+        subst (λ u. Nested u (q ∷ ps)) (granted_inside faults inside rest g) (r.0, n.1, λ y k. n.2 y ((granted-moved faults inside s).shrinks y k), n.3, e.0),
+        subst (Later p) (granted_inside faults inside rest g) (λ y k. elim k [
           | inl i ↦ r.1 y i
-          | inr i ↦ starts-below q p y a.1 (n.3 y i)
+          | inr i ↦ starts-below q p y e.1 (n.3 y i)
         ]),
       )
-asked-body (Done faults) inside rest b g s h = absurd (true≢false (sym h ∙ b))
+asked-body (Done faults) inside rest g a s h = absurd a
+asked-body _ inside rest g a s h = h
 
 held-waits : (inside rest : Term) → is_bare inside ≡ true → (ps : List (List ℕ)) → Nested (Body inside rest) ps → Nested (Held rest) ps
 held-waits inside rest b [] n = absurd n
@@ -192,26 +124,25 @@ held-released rest (f ∷ fs) [] p n = (tt, λ y k. absurd k)
 held-released rest faults (q ∷ []) p n = absurd n
 held-released rest faults (q ∷ a ∷ ps) p n = absurd n
 
+asked_by : {vars : Vars} {here : ℕ} {t : Term} {d : Does} → StepRule vars here t d → Sorted t → Asked d t
+asked_by empty s = refl
+asked_by raised s = refl
+asked_by counts s = refl
+asked_by (prints z) s = refl
+asked_by spawns s = refl
+asked_by (spawns_at p there) s = refl
+asked_by (calls p there) s = refl
+asked_by opens s = refl
+asked_by (asks_in_try {inside = inside} {d = d} {dead_only = o} {handler = handler} {x = x} {rest = rest} g a m) s =
+    asked-trying d inside o handler x rest a s (asked_by m s.0)
+asked_by (waits {rest = rest}) s = (refl, held-waits Empty rest refl)
+asked_by (waits_raised {faults = faults} {rest = rest}) s = (refl, held-waits (Raise faults) rest refl)
+asked_by (asks_in_body {inside = inside} {d = d} {rest = rest} g a m) s = asked-body d inside rest g a s.0 (asked_by m s.0)
+asked_by (releases {rest = rest}) s = (refl, λ n. n, held-released rest)
+asked_by _ s = tt
+
 asked : (vars : Vars) (here : ℕ) (t : Term) → Sorted t → Asked (does vars here t) t
-asked vars here Empty s = refl
-asked vars here (Raise faults) s = refl
-asked vars here (Run stmt x rest) s = asked-stmt vars here stmt x rest
-asked vars here (Turns body x k times rest) s = tt
-asked vars here (Trying Empty dead_only handler x rest) s = tt
-asked vars here (Trying (Raise faults) dead_only handler x rest) s = tt
-asked vars here (Trying (Run stmt y more) dead_only handler x rest) s = asked-trying (does vars here (Run stmt y more)) (Run stmt y more) dead_only handler x rest refl s (asked vars here (Run stmt y more) s.0)
-asked vars here (Trying (Turns b y k times more) dead_only handler x rest) s = asked-trying (does vars here (Turns b y k times more)) (Turns b y k times more) dead_only handler x rest refl s (asked vars here (Turns b y k times more) s.0)
-asked vars here (Trying (Trying t1 d1 h1 x1 r1) dead_only handler x rest) s = asked-trying (does vars here (Trying t1 d1 h1 x1 r1)) (Trying t1 d1 h1 x1 r1) dead_only handler x rest refl s (asked vars here (Trying t1 d1 h1 x1 r1) s.0)
-asked vars here (Trying (Body t1 r1) dead_only handler x rest) s = asked-trying (does vars here (Body t1 r1)) (Body t1 r1) dead_only handler x rest refl s (asked vars here (Body t1 r1) s.0)
-asked vars here (Trying (Held r1) dead_only handler x rest) s = asked-trying (does vars here (Held r1)) (Held r1) dead_only handler x rest refl s (asked vars here (Held r1) s.0)
-asked vars here (Body Empty rest) s = (refl, held-waits Empty rest refl)
-asked vars here (Body (Raise faults) rest) s = (refl, held-waits (Raise faults) rest refl)
-asked vars here (Body (Run stmt y more) rest) s = asked-body (does vars here (Run stmt y more)) (Run stmt y more) rest refl (λ f. refl) s.0 (asked vars here (Run stmt y more) s.0)
-asked vars here (Body (Turns b y k times more) rest) s = asked-body (does vars here (Turns b y k times more)) (Turns b y k times more) rest refl (λ f. refl) s.0 (asked vars here (Turns b y k times more) s.0)
-asked vars here (Body (Trying t1 d1 h1 x1 r1) rest) s = asked-body (does vars here (Trying t1 d1 h1 x1 r1)) (Trying t1 d1 h1 x1 r1) rest refl (λ f. refl) s.0 (asked vars here (Trying t1 d1 h1 x1 r1) s.0)
-asked vars here (Body (Body t1 r1) rest) s = asked-body (does vars here (Body t1 r1)) (Body t1 r1) rest refl (λ f. refl) s.0 (asked vars here (Body t1 r1) s.0)
-asked vars here (Body (Held r1) rest) s = asked-body (does vars here (Held r1)) (Held r1) rest refl (λ f. refl) s.0 (asked vars here (Held r1) s.0)
-asked vars here (Held rest) s = (refl, λ n. n, held-released rest)
+asked vars here t s = asked_by (rule_of vars here t) s
 
 -- a request that the ledger grants
 pub asked-nested : (here : PlaceId) (t : Term) (d : Does) (act : Act) (ps : List (List ℕ)) → Asked d t → Fits here t d act → Sorted t → Nested t (outermost ps) → Nested (granted (brought act) t) (outermost (stack_after act ps))
@@ -315,24 +246,10 @@ stmt-flat : (stmt : Stmt) (x : List ℕ) → Nested (stmt_child stmt x) []
 stmt-flat (Async body) x = items-nested body x 0 Empty tt
 stmt-flat (AtAsync place body) x = items-nested body x 0 Empty tt
 stmt-flat (At place body) x = items-nested body x 0 Empty tt
-stmt-flat (Finish body) x = tt
-stmt-flat (SetTo name value) x = tt
-stmt-flat (New name words) x = tt
-stmt-flat (Get name target index) x = tt
-stmt-flat (Put target index value) x = tt
-stmt-flat (Forget target) x = tt
-stmt-flat (Census name) x = tt
-stmt-flat (Print value) x = tt
-stmt-flat (Throw value) x = tt
-stmt-flat (If test first other) x = tt
-stmt-flat (Repeat times body) x = tt
-stmt-flat (Try body dead_only handler) x = tt
+stmt-flat _ x = tt
 
 pub child-flat : (t : Term) → Nested (child t) []
-child-flat Empty = tt
-child-flat (Raise faults) = tt
 child-flat (Run stmt x rest) = stmt-flat stmt x
-child-flat (Turns body x k times rest) = tt
 child-flat (Trying inside dead_only handler x rest) = child-flat inside
 child-flat (Body inside rest) = child-flat inside
-child-flat (Held rest) = tt
+child-flat _ = tt

@@ -3,7 +3,7 @@ use Rattle.std.proofs.Common.{◌≡◌, ◌⊎◌, ℕ, ◌<◌, Bool, true, fa
 use Rattle.std.proofs.lemmas.Bool.{true≢false}
 use Rattle.rx_rules.proofs.Common.{TaskId, ScopeId, PlaceSet, Fault, Block, Stmt, Tree, Term, Vars, started_by, own_path}
 use Rattle.rx_rules.specs.declared.entries.Act.{Act}
-use Rattle.rx_rules.specs.declared.entries.Act.TheVariants.{Open, At as Calling, Spawn, Arrive, Wait, Release, End, Print as Printed, Census as Counted}
+use Rattle.rx_rules.specs.declared.entries.Act.TheVariants.{Open, At as Calling, Release}
 use Rattle.rx_rules.specs.declared.entries.Entry.{Entry}
 use Rattle.rx_rules.specs.declared.entries.Entry.TheVariants.{Step}
 use Rattle.rx_history_laws.proofs.Straight.{code_at, is_waiter}
@@ -26,15 +26,8 @@ all_open-covers code past T f coded o =
     (λ c low alive h k x j r u way e w kept. o c low alive x u e w (record { head = h; is_head = k; next = j; rest = r; way = way; kept = kept }))
 
 abbrev pub is_release : Act → Bool
-is_release (Open s r x) = false
-is_release (Calling from to s r c x) = false
-is_release (Spawn c s from to x) = false
-is_release (Arrive p) = false
-is_release (Wait s thrown) = false
 is_release (Release s lost masked thrown) = true
-is_release (End thrown) = false
-is_release (Printed value x) = false
-is_release (Counted places x) = false
+is_release _ = false
 
 pub release-of : (act : Act) → is_release act ≡ true → (s : ScopeId) × (lost : PlaceSet) × (masked : ℕ) × (thrown : List Fault) × (act ≡ Release s lost masked thrown)
 release-of (Release s lost masked thrown) h = (s, lost, masked, thrown, refl)
@@ -43,13 +36,8 @@ release-of act h = cc
 stack-keeps : (act : Act) (ps : List (List ℕ)) (x : List ℕ) → is_release act ≡ false → Stacked x ps → Stacked x (stack_after act ps)
 stack-keeps (Open s r y) ps x n h = inr h
 stack-keeps (Calling from to s r c y) ps x n h = inr h
-stack-keeps (Spawn c s from to y) ps x n h = h
-stack-keeps (Arrive p) ps x n h = h
-stack-keeps (Wait s thrown) ps x n h = h
 stack-keeps (Release s lost masked thrown) ps x n h = absurd (true≢false n)
-stack-keeps (End thrown) ps x n h = h
-stack-keeps (Printed value y) ps x n h = h
-stack-keeps (Counted places y) ps x n h = h
+stack-keeps _ ps x n h = h
 
 pub open-stays : (past : List Entry) (t : TaskId) (act : Act) (batch : List (List ℕ)) (x : List ℕ) → is_release act ≡ false → IsOpen past x → IsOpen (Step t act batch ∷ past) x
 open-stays past t act batch x n o =

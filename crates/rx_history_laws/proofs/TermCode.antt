@@ -1,9 +1,9 @@
 -- The items of a term are statements of the script at their paths.
-use Rattle.std.proofs.Common.{◌≡◌, ℕ, zero, suc, ◌+◌, Bool, false, List, [], ◌∷◌, ◌++◌, Some, None, refl, nat_le, ap, subst, ◌∙◌, arith, append_assoc}
-use Rattle.std.proofs.lemmas.Bool.{cond_both}
-use Rattle.rx_rules.proofs.Common.{Fault, Expr, Block, Nothing, Then, Stmt, SetTo, New, Get, Put, Forget, Census, Print, Throw, Async, AtAsync, At, Finish, If, Repeat, Try, Term, Empty, Run, Raise, Turns, Trying, Body, Held, Vars, Does, Gets, Puts, Forgets, Calls, Spawns, Prints, at, items_from, items, does, stmt_does, trying_does, body_does, granted, stmt_granted, body_granted, or_raise, child, stmt_child, eval, target_of, is_zero, catches, replaced, after_it}
+use Rattle.std.proofs.Common.{◌≡◌, ℕ, zero, suc, ◌+◌, Bool, false, List, [], ◌∷◌, ◌++◌, Some, None, refl, ap, subst, ◌∙◌, arith, append_assoc}
+use Rattle.rx_rules.proofs.Common.{Fault, Expr, Block, Nothing, Then, Stmt, Async, AtAsync, At, Finish, If, Repeat, Try, Term, Empty, Run, Raise, Turns, Trying, Body, Held, Vars, Does, at, items_from, items, does, granted, stmt_granted, body_granted, or_raise, child, stmt_child, replaced, after_it}
+use Rattle.rx_rules.proofs.StepRules.{StepRule, sets, takes_first, takes_other, repeats, tries, turns_over, turns_on, try_over, caught, in_try, asks_in_try, in_body, asks_in_body, rule_of}
 use Rattle.rx_history_laws.proofs.Straight.{stmt_at, stmt_in, code_at, is_waiter}
-use Rattle.rx_history_laws.proofs.TermOrder.{IfLocal, local-number, local-place, local-ref, local-within}
+use Rattle.rx_history_laws.proofs.TermOrder.{IfLocal}
 
 -- from a statement that was found, the way goes on in it
 mutual
@@ -71,117 +71,57 @@ no_part_if test first other zero = refl
 no_part_if test first other (suc zero) = refl
 no_part_if test first other (suc (suc c)) = refl
 
-stmt-coded : (code : Block) (vars : Vars) (here : ℕ) (stmt : Stmt) (x : List ℕ) (rest : Term) → code_at code x ≡ Some stmt → Coded code rest → IfLocal (Coded code) (stmt_does vars here stmt x rest)
-stmt-coded code vars here (SetTo name value) x rest e c =
-    local-number (Coded code) vars (eval vars here value) _ (λ f. tt) (λ z. c)
-stmt-coded code vars here (New name words) x rest e c = tt
-stmt-coded code vars here (Get name target index) x rest e c =
-    local-number (Coded code) vars (eval vars here index) _ (λ f. tt) (λ z. local-ref (Coded code) vars here target (λ r. Gets name r z) (λ f. tt) (λ g. tt))
-stmt-coded code vars here (Put target index value) x rest e c =
-    local-number (Coded code) vars (eval vars here index) _ (λ f. tt)
-    (λ k. local-number (Coded code) vars (eval vars here value) _ (λ f. tt) (λ z. local-ref (Coded code) vars here target (λ r. Puts r k z) (λ f. tt) (λ g. tt)))
-stmt-coded code vars here (Forget target) x rest e c = local-ref (Coded code) vars here target Forgets (λ f. tt) (λ g. tt)
-stmt-coded code vars here (Census name) x rest e c = tt
-stmt-coded code vars here (Print value) x rest e c =
-    local-number (Coded code) vars (eval vars here value) Prints (λ f. tt) (λ z. tt)
-stmt-coded code vars here (Throw value) x rest e c =
-    local-number (Coded code) vars (eval vars here value) _ (λ f. tt) (λ z. tt)
-stmt-coded code vars here (Async body) x rest e c = tt
-stmt-coded code vars here (AtAsync place body) x rest e c =
-    local-place (Coded code) vars (target_of (eval vars here place) vars.places) Spawns (λ f. tt) (λ p. tt)
-stmt-coded code vars here (At place body) x rest e c =
-    local-place (Coded code) vars (target_of (eval vars here place) vars.places) Calls (λ f. tt) (λ p. tt)
-stmt-coded code vars here (Finish body) x rest e c = tt
-stmt-coded code vars here (If test first other) x rest e c =
-    local-number (Coded code) vars (eval vars here test) _ (λ f. tt)
-    (λ z. cond_both (is_zero z) (items other (at x 1) rest) (items first (at x 0) rest) (Coded code)
-    (λ t. block-coded code other (at x 1) rest (inner-block code x (If test first other) 1 other e (λ i y. refl)) c)
-    (λ t. block-coded code first (at x 0) rest (inner-block code x (If test first other) 0 first e (λ i y. refl)) c))
-stmt-coded code vars here (Repeat times body) x rest e c =
-    (λ m. inner-block code x (Repeat times body) m body e (λ i y. refl), c, (Repeat times body, e, refl, λ k. refl))
-stmt-coded code vars here (Try body dead_only handler) x rest e c = (
-  block-coded code body (at x 0) Empty (inner-block code x (Try body dead_only handler) 0 body e (λ i y. refl)) tt,
-  inner-block code x (Try body dead_only handler) 1 handler e (λ i y. refl),
-  c,
-  (Try body dead_only handler, e, refl, no_part_try body dead_only handler),
+-- a local step
+coded_by : (code : Block) {vars : Vars} {here : ℕ} {t : Term} {d : Does} → StepRule vars here t d → Coded code t → IfLocal (Coded code) d
+coded_by code (sets z) c = c.1
+coded_by code (takes_first {test = test} {first = first} {other = other} {x = x} {rest = rest}) c =
+    block-coded code first (at x 0) rest (inner-block code x (If test first other) 0 first c.0 (λ i y. refl)) c.1
+coded_by code (takes_other {test = test} {first = first} {other = other} {x = x} {rest = rest}) c =
+    block-coded code other (at x 1) rest (inner-block code x (If test first other) 1 other c.0 (λ i y. refl)) c.1
+coded_by code (repeats {times = times} {body = body} {x = x}) c =
+    (λ m. inner-block code x (Repeat times body) m body c.0 (λ i y. refl), c.1, (Repeat times body, c.0, refl, λ k. refl))
+coded_by code (tries {body = body} {dead_only = o} {handler = handler} {x = x}) c = (
+  block-coded code body (at x 0) Empty (inner-block code x (Try body o handler) 0 body c.0 (λ i y. refl)) tt,
+  inner-block code x (Try body o handler) 1 handler c.0 (λ i y. refl),
+  c.1,
+  (Try body o handler, c.0, refl, no_part_try body o handler),
 )
-
-trying-coded : (code : Block) (vars : Vars) (d : Does) (inside : Term) (dead_only : Bool) (handler : Block) (x : List ℕ) (rest : Term) → Coded code (Trying inside dead_only handler x rest) → IfLocal (Coded code) d → IfLocal (Coded code) (trying_does vars inside d dead_only handler x rest)
-trying-coded code vars d Empty dead_only handler x rest c h = c.2
-trying-coded code vars d (Raise faults) dead_only handler x rest c h =
-    cond_both (catches dead_only faults) (items handler (at x 1) rest) (Raise faults) (Coded code) (λ e. block-coded code handler (at x 1) rest c.1 c.2) (λ e. tt)
-trying-coded code vars d (Run stmt y more) dead_only handler x rest c h = local-within (Coded code) (Coded code) (λ t. Trying t dead_only handler x rest) (λ t m. (m, c.1, c.2, c.3)) d h
-trying-coded code vars d (Turns b y k times more) dead_only handler x rest c h = local-within (Coded code) (Coded code) (λ t. Trying t dead_only handler x rest) (λ t m. (m, c.1, c.2, c.3)) d h
-trying-coded code vars d (Trying t1 d1 h1 x1 r1) dead_only handler x rest c h = local-within (Coded code) (Coded code) (λ t. Trying t dead_only handler x rest) (λ t m. (m, c.1, c.2, c.3)) d h
-trying-coded code vars d (Body t1 r1) dead_only handler x rest c h = local-within (Coded code) (Coded code) (λ t. Trying t dead_only handler x rest) (λ t m. (m, c.1, c.2, c.3)) d h
-trying-coded code vars d (Held r1) dead_only handler x rest c h = local-within (Coded code) (Coded code) (λ t. Trying t dead_only handler x rest) (λ t m. (m, c.1, c.2, c.3)) d h
-
-body-coded : (code : Block) (d : Does) (inside rest : Term) → Coded code (Body inside rest) → IfLocal (Coded code) d → IfLocal (Coded code) (body_does inside d rest)
-body-coded code d Empty rest c h = tt
-body-coded code d (Raise faults) rest c h = tt
-body-coded code d (Run stmt y more) rest c h = local-within (Coded code) (Coded code) (λ t. Body t rest) (λ t m. (m, c.1)) d h
-body-coded code d (Turns b y k times more) rest c h = local-within (Coded code) (Coded code) (λ t. Body t rest) (λ t m. (m, c.1)) d h
-body-coded code d (Trying t1 d1 h1 x1 r1) rest c h = local-within (Coded code) (Coded code) (λ t. Body t rest) (λ t m. (m, c.1)) d h
-body-coded code d (Body t1 r1) rest c h = local-within (Coded code) (Coded code) (λ t. Body t rest) (λ t m. (m, c.1)) d h
-body-coded code d (Held r1) rest c h = local-within (Coded code) (Coded code) (λ t. Body t rest) (λ t m. (m, c.1)) d h
+coded_by code turns_over c = c.1
+coded_by code (turns_on {body = body} {x = x} {k = k} {times = times} {rest = rest} left) c =
+    block-coded code body (at x k) (Turns body x (suc k) times rest) (c.0 k) (c.0, c.1, c.2)
+coded_by code try_over c = c.2
+coded_by code (caught {handler = handler} {x = x} {rest = rest}) c = block-coded code handler (at x 1) rest c.1 c.2
+coded_by code (in_try s) c = (coded_by code s c.0, c.1, c.2, c.3)
+coded_by code (asks_in_try g a s) c = coded_by code s c.0
+coded_by code (in_body s) c = (coded_by code s c.0, c.1)
+coded_by code (asks_in_body g a s) c = coded_by code s c.0
+coded_by code _ c = tt
 
 pub local-coded : (code : Block) (vars : Vars) (here : ℕ) (t : Term) → Coded code t → IfLocal (Coded code) (does vars here t)
-local-coded code vars here Empty c = tt
-local-coded code vars here (Raise faults) c = tt
-local-coded code vars here (Run stmt x rest) c = stmt-coded code vars here stmt x rest c.0 c.1
-local-coded code vars here (Turns b x k times rest) c =
-    cond_both (nat_le times k) rest (items b (at x k) (Turns b x (suc k) times rest)) (Coded code) (λ e. c.1) (λ e. block-coded code b (at x k) (Turns b x (suc k) times rest) (c.0 k) (c.0, c.1, c.2))
-local-coded code vars here (Trying inside dead_only handler x rest) c =
-    trying-coded code vars (does vars here inside) inside dead_only handler x rest c (local-coded code vars here inside c.0)
-local-coded code vars here (Body inside rest) c =
-    body-coded code (does vars here inside) inside rest c (local-coded code vars here inside c.0)
-local-coded code vars here (Held rest) c = tt
+local-coded code vars here t c = coded_by code (rule_of vars here t) c
 
 -- an answer
 pub replaced-coded : (code : Block) (t new : Term) → Coded code t → Coded code new → Coded code (replaced t new)
-replaced-coded code Empty new c n = n
-replaced-coded code (Raise faults) new c n = n
-replaced-coded code (Run stmt x rest) new c n = n
-replaced-coded code (Turns b x k times rest) new c n = n
 replaced-coded code (Trying inside dead_only handler x rest) new c n = (replaced-coded code inside new c.0 n, c.1, c.2, c.3)
 replaced-coded code (Body inside rest) new c n = (replaced-coded code inside new c.0 n, c.1)
-replaced-coded code (Held rest) new c n = n
+replaced-coded code _ new c n = n
 
 pub after-coded : (code : Block) (t : Term) → Coded code t → Coded code (after_it t)
-after-coded code Empty c = tt
-after-coded code (Raise faults) c = tt
 after-coded code (Run stmt x rest) c = c.1
-after-coded code (Turns b x k times rest) c = tt
 after-coded code (Trying inside dead_only handler x rest) c = after-coded code inside c.0
 after-coded code (Body inside rest) c = after-coded code inside c.0
-after-coded code (Held rest) c = tt
+after-coded code _ c = tt
 
 -- a granted request
 granted-stmt : (code : Block) (stmt : Stmt) (x : List ℕ) (rest : Term) → code_at code x ≡ Some stmt → Coded code rest → Coded code (stmt_granted stmt x rest)
 granted-stmt code (Finish body) x rest e c = (block-coded code body x Empty (λ i y. code-on code x (Finish body) e (i ∷ y)) tt, c)
-granted-stmt code (SetTo name value) x rest e c = c
-granted-stmt code (New name words) x rest e c = c
-granted-stmt code (Get name target index) x rest e c = c
-granted-stmt code (Put target index value) x rest e c = c
-granted-stmt code (Forget target) x rest e c = c
-granted-stmt code (Census name) x rest e c = c
-granted-stmt code (Print value) x rest e c = c
-granted-stmt code (Throw value) x rest e c = c
-granted-stmt code (Async body) x rest e c = c
-granted-stmt code (AtAsync place body) x rest e c = c
 granted-stmt code (At place body) x rest e c = c
-granted-stmt code (If test first other) x rest e c = c
-granted-stmt code (Repeat times body) x rest e c = c
-granted-stmt code (Try body dead_only handler) x rest e c = c
+granted-stmt code _ x rest e c = c
 
 granted-body : (code : Block) (inside after rest : Term) → Coded code after → Coded code rest → Coded code (body_granted inside after rest)
 granted-body code Empty after rest a c = c
 granted-body code (Raise faults) after rest a c = c
-granted-body code (Run stmt y more) after rest a c = (a, c)
-granted-body code (Turns b y k times more) after rest a c = (a, c)
-granted-body code (Trying t1 d1 h1 x1 r1) after rest a c = (a, c)
-granted-body code (Body t1 r1) after rest a c = (a, c)
-granted-body code (Held r1) after rest a c = (a, c)
+granted-body code _ after rest a c = (a, c)
 
 or_raise-coded : (code : Block) (faults : List Fault) (rest : Term) → Coded code rest → Coded code (or_raise faults rest)
 or_raise-coded code [] rest c = c
@@ -201,27 +141,13 @@ child-stmt : (code : Block) (stmt : Stmt) (x : List ℕ) → code_at code x ≡ 
 child-stmt code (Async body) x e = block-coded code body x Empty (λ i y. code-on code x (Async body) e (i ∷ y)) tt
 child-stmt code (AtAsync place body) x e = block-coded code body x Empty (λ i y. code-on code x (AtAsync place body) e (i ∷ y)) tt
 child-stmt code (At place body) x e = block-coded code body x Empty (λ i y. code-on code x (At place body) e (i ∷ y)) tt
-child-stmt code (SetTo name value) x e = tt
-child-stmt code (New name words) x e = tt
-child-stmt code (Get name target index) x e = tt
-child-stmt code (Put target index value) x e = tt
-child-stmt code (Forget target) x e = tt
-child-stmt code (Census name) x e = tt
-child-stmt code (Print value) x e = tt
-child-stmt code (Throw value) x e = tt
-child-stmt code (Finish body) x e = tt
-child-stmt code (If test first other) x e = tt
-child-stmt code (Repeat times body) x e = tt
-child-stmt code (Try body dead_only handler) x e = tt
+child-stmt code _ x e = tt
 
 pub child-coded : (code : Block) (t : Term) → Coded code t → Coded code (child t)
-child-coded code Empty c = tt
-child-coded code (Raise faults) c = tt
 child-coded code (Run stmt x rest) c = child-stmt code stmt x c.0
-child-coded code (Turns b x k times rest) c = tt
 child-coded code (Trying inside dead_only handler x rest) c = child-coded code inside c.0
 child-coded code (Body inside rest) c = child-coded code inside c.0
-child-coded code (Held rest) c = tt
+child-coded code _ c = tt
 
 -- the term of the main task
 pub start-coded : (code : Block) → Coded code (items code [] Empty)

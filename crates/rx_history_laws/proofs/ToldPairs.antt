@@ -82,9 +82,7 @@ alive-born x c xs h =
 
 abbrev pub Starts_it : Entry → ℕ → Type 0
 Starts_it (Step t act batch) c = (d : TaskId) × (started_by act ≡ Some d) × (d.0 ≡ c)
-Starts_it (Root lost masked thrown) c = ⊥
-Starts_it (Death d) c = ⊥
-Starts_it (Join d) c = ⊥
+Starts_it _ c = ⊥
 
 alive-end : (T : Tree) (t : TaskId) (thrown : List Fault) (c : ℕ) (x : Task) → task_of T t ≡ Some x → is_alive (after_end T t thrown) c ≡ true → is_alive T c ≡ true
 alive-end T t thrown c x e h =
@@ -179,9 +177,7 @@ pub record Pending (T : Tree) (term_at : ℕ → Term) (y : List ℕ) : Type 0 w
 
 abbrev pub by_host : Entry → Bool
 by_host (Step t act batch) = false
-by_host (Root lost masked thrown) = true
-by_host (Death d) = true
-by_host (Join d) = true
+by_host _ = true
 
 -- a fact of what stands before an entry, the tree and the terms that each entry keeps, and each step between entries
 pub record Keeps (code : Block) (starts : List (Term × Vars)) (K : List Entry → Tree → (ℕ → Term) → Type 0) : Type 0 where

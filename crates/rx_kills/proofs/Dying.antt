@@ -1,7 +1,7 @@
 -- Deaths, entry by entry.
-use Rattle.std.proofs.Common.{◌≡◌, ◌≢◌, ℕ, zero, suc, ◌+◌, ◌<◌, ◌≤◌, Bool, true, false, cond, is_none, ◌==◌, List, [], ◌∷◌, ◌++◌, length, take, replicate, Option, Some, None, slice_get, slice_index_or, slice_set, refl, ap, sym, ◌∙◌, arith}
+use Rattle.std.proofs.Common.{◌≡◌, ◌≢◌, ℕ, zero, suc, ◌+◌, ◌<◌, ◌≤◌, Bool, true, false, cond, is_none, ◌==◌, List, [], ◌∷◌, ◌++◌, length, take, Option, Some, None, slice_get, slice_index_or, slice_set, refl, ap, sym, ◌∙◌, arith}
 use Rattle.std.proofs.lemmas.Bool.{eqb-true, eq-eqb, true≢false}
-use Rattle.std.proofs.lemmas.List.{get_or-set_same, get_or-set_other, get_or_default, get_or-replicate}
+use Rattle.std.proofs.lemmas.List.{get_or-set_same, get_or-set_other, get_or_default}
 use Rattle.rx_base.proofs.Elements.{length-set}
 use Rattle.rx_rules.proofs.Common.{PlaceId, death_number}
 use Rattle.rx_rules.specs.declared.entries.Entry.{Entry}
@@ -83,7 +83,3 @@ deaths-next es ds e h = record {
       ∙ (ap (λ n. first_of (death_number 0 (record { 0 = p }) es) (death_number n (record { 0 = p }) (e ∷ []))) (sym z)
       ∙ sym (death-push 0 (record { 0 = p }) es e)));
 }
-
--- before the first entry
-pub no_deaths : (ds : List (Option ℕ)) → ds ≡ replicate 16 None → AreDeaths [] ds
-no_deaths ds h = record { all = ap length h; each = λ p low. ap (λ l. slice_index_or l p None) h ∙ get_or-replicate 16 p None None low }

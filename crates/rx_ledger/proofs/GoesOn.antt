@@ -47,7 +47,7 @@ so_says T who P x h found =
     ]
 
 -- who was changed is found changed
-found_changed : (f : Task → Task) (t : TaskId) (xs : List Task) (x : Task) → ((y : Task) → (f y).number ≡ y.number) → find (is_task t) xs ≡ Some x → find (is_task t) (change_first (is_task t) f xs) ≡ Some (f x)
+pub found_changed : (f : Task → Task) (t : TaskId) (xs : List Task) (x : Task) → ((y : Task) → (f y).number ≡ y.number) → find (is_task t) xs ≡ Some x → find (is_task t) (change_first (is_task t) f xs) ≡ Some (f x)
 found_changed f t [] x keeps e = absurd (let v : ⊥ = cc in v)
 found_changed f t (y ∷ ys) x keeps e =
     (elim (is_task t y) as (λ b. is_task t y ≡ b → cond b (Some y) (find (is_task t) ys) ≡ Some x → find (is_task t) (cond b (f y ∷ ys) (y ∷ change_first (is_task t) f ys)) ≡ Some (f x)) [
@@ -110,7 +110,7 @@ landed_on T who r may act few =
       numbers = few;
     }
 
-free_stays : (b : Bool) (o : Option Blow) → o ≡ None → not (b && is_some o) ≡ true
+pub free_stays : (b : Bool) (o : Option Blow) → o ≡ None → not (b && is_some o) ≡ true
 free_stays true o e = ap (λ (v : Option Blow). not (true && is_some v)) e
 free_stays false o e = refl
 

@@ -22,6 +22,7 @@ use Rattle.rx_ledger.specs.Staying.{NotBy, NotOf, EntryKeepsTicket, TicketsStayG
 use Rattle.rx_ledger.proofs.Keepers.{fold-append}
 use Rattle.rx_chronicle.proofs.Linking.{Link, link, links, top, inner_top}
 use Rattle.rx_ledger.proofs.Others.{Stays, entry_lasts, left_lasts}
+use Rattle.rx_ledger.proofs.Striking.{running-on, moves-on, held-on}
 
 -- The newest own scope, as its link.
 
@@ -165,35 +166,17 @@ serves_on n T e t (Print value) r may o h = running_on t e _ _ (λ who b. caller
 serves_on n T e t Census r may o h = running_on t e _ _ (λ who b. caller_stays n T e who r may b IsMoving IsMoving (moving_stays n T e who r may b)) o h
 serves_on n T e t Root r may o h = tt
 
-running_as : (t : AnyTicket) (P Q : Caller → Type 0) → ((who : Caller) → P who → Q who) → IsRunning t P → IsRunning t Q
-running_as (Running who) P Q f h = f who h
-running_as (Moving who) P Q f h = h
-running_as (Held who) P Q f h = h
-running_as Host P Q f h = h
-
-moves_as : (t : AnyTicket) (P Q : Caller → Type 0) → ((who : Caller) → P who → Q who) → Moves t P → Moves t Q
-moves_as (Running who) P Q f h = h
-moves_as (Moving who) P Q f h = f who h
-moves_as (Held who) P Q f h = h
-moves_as Host P Q f h = h
-
-held_as : (t : AnyTicket) (P Q : Caller → Type 0) → ((who : Caller) → P who → Q who) → IsHeld t P → IsHeld t Q
-held_as (Running who) P Q f h = h
-held_as (Moving who) P Q f h = h
-held_as (Held who) P Q f h = f who h
-held_as Host P Q f h = h
-
 -- what a request asks of its caller but for numbers and places
 serves : (T : Tree) (t : AnyTicket) (path : Option (List ℕ)) (a : Ask) → MayAskFor T t path a → Serves T t a
-serves T t path Open h = running_as t _ _ (λ who m. m.caller) h.0
-serves T t path (Calls to) h = running_as t _ _ (λ who m. m.asks.caller) h.0
-serves T t path (Spawn to) h = running_as t _ _ (λ who m. m.asks.caller) h.0
-serves T t path Arrive h = moves_as t _ _ (λ who m. m.caller) h.0
-serves T t path (Wait thrown) h = running_as t _ _ (λ who m. m.caller) h.0
-serves T t path Release h = held_as t _ _ (λ who m. m.caller) h.0
-serves T t path (End thrown) h = running_as t _ _ (λ who m. m.caller) h.0
-serves T t path (Print value) h = running_as t _ _ (λ who m. m.caller) h.0
-serves T t path Census h = running_as t _ _ (λ who m. m.caller) h.0
+serves T t path Open h = running-on t _ _ (λ who m. m.caller) h.0
+serves T t path (Calls to) h = running-on t _ _ (λ who m. m.asks.caller) h.0
+serves T t path (Spawn to) h = running-on t _ _ (λ who m. m.asks.caller) h.0
+serves T t path Arrive h = moves-on t _ _ (λ who m. m.caller) h.0
+serves T t path (Wait thrown) h = running-on t _ _ (λ who m. m.caller) h.0
+serves T t path Release h = held-on t _ _ (λ who m. m.caller) h.0
+serves T t path (End thrown) h = running-on t _ _ (λ who m. m.caller) h.0
+serves T t path (Print value) h = running-on t _ _ (λ who m. m.caller) h.0
+serves T t path Census h = running-on t _ _ (λ who m. m.caller) h.0
 serves T t path Root h = tt
 
 running_to : (T V : Tree) (t : AnyTicket) (to : PlaceId) → T.places ≤ V.places → HasNumbers V → IsRunning t (λ who. MayAskTo T who to) → IsRunning t (λ who. Caught V who IsMoving) → IsRunning t (λ who. MayAskTo V who to)
@@ -205,15 +188,15 @@ running_to T V Host to same few h now = h
 
 -- and with them
 asks_again : (T V : Tree) (t : AnyTicket) (path : Option (List ℕ)) (a : Ask) → T.places ≤ V.places → HasNumbers V → MayAskFor T t path a → Serves V t a → MayAskFor V t path a
-asks_again T V t path Open same few h now = (running_as t _ _ (λ who c. record { caller = c; numbers = few }) now, h.1)
+asks_again T V t path Open same few h now = (running-on t _ _ (λ who c. record { caller = c; numbers = few }) now, h.1)
 asks_again T V t path (Calls to) same few h now = (running_to T V t to same few h.0 now, h.1)
 asks_again T V t path (Spawn to) same few h now = (running_to T V t to same few h.0 now, h.1)
-asks_again T V t path Arrive same few h now = (moves_as t _ _ (λ who c. record { caller = c; numbers = few }) now, h.1)
-asks_again T V t path (Wait thrown) same few h now = (running_as t _ _ (λ who c. record { caller = c; numbers = few }) now, h.1)
-asks_again T V t path Release same few h now = (held_as t _ _ (λ who c. record { caller = c; numbers = few }) now, h.1)
-asks_again T V t path (End thrown) same few h now = (running_as t _ _ (λ who c. record { caller = c; numbers = few }) now, h.1)
-asks_again T V t path (Print value) same few h now = (running_as t _ _ (λ who c. record { caller = c; numbers = few }) now, h.1)
-asks_again T V t path Census same few h now = (running_as t _ _ (λ who c. record { caller = c; numbers = few }) now, h.1)
+asks_again T V t path Arrive same few h now = (moves-on t _ _ (λ who c. record { caller = c; numbers = few }) now, h.1)
+asks_again T V t path (Wait thrown) same few h now = (running-on t _ _ (λ who c. record { caller = c; numbers = few }) now, h.1)
+asks_again T V t path Release same few h now = (held-on t _ _ (λ who c. record { caller = c; numbers = few }) now, h.1)
+asks_again T V t path (End thrown) same few h now = (running-on t _ _ (λ who c. record { caller = c; numbers = few }) now, h.1)
+asks_again T V t path (Print value) same few h now = (running-on t _ _ (λ who c. record { caller = c; numbers = few }) now, h.1)
+asks_again T V t path Census same few h now = (running-on t _ _ (λ who c. record { caller = c; numbers = few }) now, h.1)
 asks_again T V t path Root same few h now = h
 
 -- no entry makes places fewer

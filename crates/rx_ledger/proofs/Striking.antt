@@ -19,19 +19,19 @@ use Rattle.rx_ledger.specs.Told.{due_entries}
 
 -- Each kind of ticket.
 
-running-on : (t : AnyTicket) (P Q : Caller → Type 0) → ((who : Caller) → P who → Q who) → IsRunning t P → IsRunning t Q
+pub running-on : (t : AnyTicket) (P Q : Caller → Type 0) → ((who : Caller) → P who → Q who) → IsRunning t P → IsRunning t Q
 running-on (Running who) P Q f h = f who h
 running-on (Moving who) P Q f h = h
 running-on (Held who) P Q f h = h
 running-on Host P Q f h = h
 
-moves-on : (t : AnyTicket) (P Q : Caller → Type 0) → ((who : Caller) → P who → Q who) → Moves t P → Moves t Q
+pub moves-on : (t : AnyTicket) (P Q : Caller → Type 0) → ((who : Caller) → P who → Q who) → Moves t P → Moves t Q
 moves-on (Running who) P Q f h = h
 moves-on (Moving who) P Q f h = f who h
 moves-on (Held who) P Q f h = h
 moves-on Host P Q f h = h
 
-held-on : (t : AnyTicket) (P Q : Caller → Type 0) → ((who : Caller) → P who → Q who) → IsHeld t P → IsHeld t Q
+pub held-on : (t : AnyTicket) (P Q : Caller → Type 0) → ((who : Caller) → P who → Q who) → IsHeld t P → IsHeld t Q
 held-on (Running who) P Q f h = h
 held-on (Moving who) P Q f h = h
 held-on (Held who) P Q f h = f who h

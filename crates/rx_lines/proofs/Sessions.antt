@@ -19,14 +19,12 @@ use Rattle.rx_lines.proofs.OneEntry.{item_one}
 use Rattle.rx_lines.proofs.Viewing.{Keeps, IsTree, View, view, agree, stays, out_stays}
 use Rattle.rx_lines.proofs.Keeping.{Fine, FreedAt, Passed, Stayed, fine_view, back_view, rows_keep, rows_turned, freed_at, fine_freed, passes_not, fine_stayed, stayed_keep}
 use Rattle.rx_lines.proofs.Keeping.{freed_both}
+use Rattle.rx_base.proofs.Elements.{tails-are}
 
 -- Lists.
 
 head-one : {X : Type 0} (x y : X) (xs ys : List X) → x ∷ xs ≡ y ∷ ys → x ≡ y
 head-one x y xs ys e = cc
-
-tail-one : {X : Type 0} (x y : X) (xs ys : List X) → x ∷ xs ≡ y ∷ ys → xs ≡ ys
-tail-one x y xs ys e = cc
 
 no-more : {X : Type 0} (xs : List X) (x : X) → [] ≡ xs ++ x ∷ [] → ⊥
 no-more [] x e = cc
@@ -35,10 +33,10 @@ no-more (y ∷ ys) x e = cc
 -- what stands before the last item
 fronts-one : {X : Type 0} (xs ys : List X) (x y : X) → xs ++ x ∷ [] ≡ ys ++ y ∷ [] → xs ≡ ys
 fronts-one [] [] x y e = refl
-fronts-one [] (b ∷ bs) x y e = absurd (no-more bs y (tail-one x b [] (bs ++ y ∷ []) e))
-fronts-one (a ∷ ds) [] x y e = absurd (no-more ds x (sym (tail-one a y (ds ++ x ∷ []) [] e)))
+fronts-one [] (b ∷ bs) x y e = absurd (no-more bs y (tails-are x b [] (bs ++ y ∷ []) e))
+fronts-one (a ∷ ds) [] x y e = absurd (no-more ds x (sym (tails-are a y (ds ++ x ∷ []) [] e)))
 fronts-one {X = X} (a ∷ ds) (b ∷ bs) x y e =
-    ap (λ (z : X). z ∷ ds) (head-one a b (ds ++ x ∷ []) (bs ++ y ∷ []) e) ∙ ap (λ (zs : List X). b ∷ zs) (fronts-one ds bs x y (tail-one a b (ds ++ x ∷ []) (bs ++ y ∷ []) e))
+    ap (λ (z : X). z ∷ ds) (head-one a b (ds ++ x ∷ []) (bs ++ y ∷ []) e) ∙ ap (λ (zs : List X). b ∷ zs) (fronts-one ds bs x y (tails-are a b (ds ++ x ∷ []) (bs ++ y ∷ []) e))
 
 -- What ran out.
 

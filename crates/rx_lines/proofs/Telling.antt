@@ -56,23 +56,6 @@ kept w f v g t u text piece same is h =
       left = put-kept t.is_failed u.is_failed f g h.rest piece t.text.items u.text.items same is h.left;
     }
 
--- nothing more is written
-put-failed : (b d : Bool) (f g : ℕ) (rest piece old new : List ℕ) → b ≡ true → d ≡ true → IsLeft b f g rest old → IsLeft d f g (rest ++ piece) new
-put-failed true true f g rest piece old new was is h = left-failed f g rest piece h
-put-failed true false f g rest piece old new was is h = cc
-put-failed false d f g rest piece old new was is h = cc
-
-pub failed : (w : Option (List ℕ)) (f : ℕ) (v : Option (List ℕ)) (g : ℕ) (t u : Pending) (text piece : List ℕ) → t.is_failed ≡ true → u.is_failed ≡ true → TextIsTold w f v g t text → TextIsTold w f v g u (text ++ piece)
-failed w f v g t u text piece was is h =
-    record {
-      sent = h.sent;
-      rest = h.rest ++ piece;
-      later = h.later;
-      wrote = h.wrote;
-      all = ap (λ z. z ++ piece) h.all ∙ append_assoc h.sent h.rest piece;
-      left = put-failed t.is_failed u.is_failed f g h.rest piece t.text.items u.text.items was is h.left;
-    }
-
 -- what is left is what was pending
 rest-is : (b : Bool) (f g : ℕ) (rest old : List ℕ) → b ≡ false → IsLeft b f g rest old → rest ≡ old
 rest-is false f g rest old was h = h

@@ -10,10 +10,10 @@ use Rattle.rx_book.specs.Named.{BookName}
 use Rattle.rx_parts.specs.declared.items.EntryItem.{EntryItem}
 use Rattle.rx_parts.specs.declared.items.EventItem.{EventItem}
 use Rattle.rx_objects.specs.declared.ledger.LedgerFixed.{LedgerFixed}
-use Rattle.rx_objects.specs.Ending.{IsHeard, EachEnds, SeesEnd}
+use Rattle.rx_objects.specs.Ending.{IsHeard, SeesEnd}
 use Rattle.rx_stations.specs.Stations.{PostName, AreFrom}
 use Rattle.rx_stations.specs.Closed.{IsClosed}
-use Rattle.rx_live.specs.Inside.Ending.{SeatsFrom, StaysAt, PlacesEnded, views_of}
+use Rattle.rx_live.specs.Inside.Ending.{SeatsFrom, StaysAt, views_of}
 use Rattle.rx_stations.proofs.Stationing.{post_at}
 use Rattle.rx_live.proofs.Seats.{seat_at}
 use Rattle.rx_live.proofs.Noted.{viewed}
@@ -106,23 +106,3 @@ module _ (L : BookName LedgerFixed) (stations : List PostName) (seats : List (Pa
         behind =
             let more : length stations1 ≡ suc (length stations2) = (let a = ap length posts_are ∙ length_push stations2 post in omega (arith, a)) in
             subst (λ (n : ℕ). EndedFrom L (view_of host).seen (view_of host1).reach (views_of seats) n (length seats) stores) more from.ended
-
--- all places have ended
-pub all_closed : (L : BookName LedgerFixed) (stations : List PostName) (seats : List (Pass EventItem)) (host : Pass EntryItem) (stations' : List PostName) (seats' : List (Pass EventItem)) (host' : Pass EntryItem) (stores : List StoreView)
-    → ClosesFrom L stations seats host stations' seats' host' stores → length stations' ≡ 0 → PlacesEnded L (view_of host') (views_of seats) stores
-all_closed L stations seats host stations' seats' host' stores from none =
-    let e = subst (λ (n : ℕ). EndedFrom L (view_of host).seen (view_of host').reach (views_of seats) n (length seats) stores) none from.ended in
-    record {
-      histories = e.histories;
-      each = subst (λ (h : List (Stamped EntryItem)). EachEnds L h (view_of host').reach (views_of seats) 0 stores e.histories) (sym from.stays.seen) e.each;
-      one_each = (let m = e.many in
-          let v = views_long in omega (arith, m, v));
-      words = e.words;
-    }
-  where
-    views_long : length (views_of seats) ≡ length seats
-    views_long = long seats
-      where
-        long : (ss : List (Pass EventItem)) → length (views_of ss) ≡ length ss
-        long [] = refl
-        long (s ∷ ss) = ap suc (long ss)

@@ -36,13 +36,6 @@ pub note_of_run : (L : BookName LedgerFixed) (p : Pass EntryItem) (n : Note Entr
     → (note_word n ≡ L.word) × LedgerIsLegal L.fixed (note_view n).seen
 note_of_run L p n of word seen = (word ∙ of.word, subst (λ (h : List (Stamped EntryItem)). LedgerIsLegal L.fixed h) (sym seen.seen) of.lawful)
 
--- what a pass had seen is seen by the host's pass that has met its note
-pub has_seen : (old new p q : Pass EntryItem) (n : Note EntryItem) → IsHeard (view_of old).seen (view_of new).reach (note_view n) → StaysAt old new → IsAsSeen (view_of q) (note_view n) → q ≡ p
-    → IsPrefix (view_of p).seen (view_of new).seen
-has_seen old new p q n heard stays seen same =
-    let theirs : IsPrefix (note_view n).seen (view_of new).seen = subst (λ (h : List (Stamped EntryItem)). IsPrefix (note_view n).seen h) (heard.whole ∙ sym stays.seen) heard.met.theirs in
-    subst (λ (h : List (Stamped EntryItem)). IsPrefix h (view_of new).seen) (seen.seen ∙ ap (λ (r : Pass EntryItem). (view_of r).seen) same) theirs
-
 -- and it goes on to have seen it
 pub seen_still : (old new : Pass EntryItem) (kept : List (Option (Pass EntryItem))) → StaysAt old new → All (HasSeen old) kept → All (HasSeen new) kept
 seen_still old new kept stays all = All-weaker (HasSeen old) (HasSeen new) still kept all

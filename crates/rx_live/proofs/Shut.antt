@@ -1,13 +1,13 @@
 -- The stores are closed where their places have died, the first place first.
-use Rattle.std.proofs.Common.{◌≡◌, ℕ, suc, ◌+◌, ◌<◌, List, [], ◌∷◌, ◌++◌, reverse, length, refl, ap, sym, ◌∙◌, subst, arith, append_assoc}
-use Rattle.std.proofs.lemmas.List.{append-nil, map-append, reverse-append, reverse-reverse, length-append, length_push, nil_from_length}
+use Rattle.std.proofs.Common.{◌≡◌, ℕ, suc, ◌+◌, ◌<◌, List, [], ◌∷◌, ◌++◌, reverse, length, ap, sym, ◌∙◌, subst, arith, append_assoc}
+use Rattle.std.proofs.lemmas.List.{map-append, reverse-append, length-append, length_push}
 use Rattle.rx_rules.specs.declared.entries.Entry.{Entry}
 use Rattle.rx_rules.specs.declared.events.PlaceEvent.{PlaceEvent}
 use Rattle.rx_rules.proofs.Common.{death_number, IsStoreRun, opening_state}
 use Rattle.rx_history.specs.Events.{Events, AllEvents, events_of}
 use Rattle.rx_store.specs.Kept.{StoreView}
 use Rattle.rx_objects.specs.Ending.{IsShut, EachShut}
-use Rattle.rx_live.specs.Inside.Ending.{HaveWords, ShutsAt, MayBeShut}
+use Rattle.rx_live.specs.Inside.Ending.{HaveWords, MayBeShut}
 
 -- the stores in front of this place are closed, and give these journals; the others are left, the last first
 pub record ShutTo (es : List Entry) (stores rest : List StoreView) (place : ℕ) (js : List (List PlaceEvent)) : Type 0 where
@@ -16,11 +16,6 @@ pub record ShutTo (es : List Entry) (stores rest : List StoreView) (place : ℕ)
   pub many : length done ≡ place
   pub left : MayBeShut es place (reverse rest)
   pub shut : (heap : ℕ) → HaveWords heap stores → EachShut es heap 0 done js
-
-pub none_shut : (es : List Entry) (stores rest : List StoreView) → rest ≡ reverse stores → MayBeShut es 0 stores → ShutTo es stores rest 0 []
-none_shut es stores rest is may =
-    let back : stores ≡ reverse rest = sym (ap reverse is ∙ reverse-reverse stores) in
-    record { done = []; split = back; many = refl; left = subst (MayBeShut es 0) back may; shut = λ heap words. tt }
 
 each_more : (es : List Entry) (heap p q : ℕ) (ss : List StoreView) (js : List (List PlaceEvent)) (s : StoreView) (j : List PlaceEvent) → q ≡ p + length ss → EachShut es heap p ss js
     → IsShut (death_number 0 (record { 0 = q }) es) s.events j → IsStoreRun heap opening_state j → EachShut es heap p (ss ++ s ∷ []) (js ++ j ∷ [])
@@ -49,9 +44,6 @@ module _ (es : List Entry) (stores rest : List StoreView) (place : ℕ) (js : Li
       let a = ap length split ∙ length-append to.done (s ∷ reverse less) in
       let m = to.many in omega (arith, a, m)
 
-  pub shuts_next : ShutsAt (death_number 0 (record { 0 = place }) es) s
-  shuts_next = left.0
-
   pub one_shut : (j : List PlaceEvent) (next : ℕ) (js' : List (List PlaceEvent)) → next ≡ place + 1 → js' ≡ js ++ j ∷ [] → IsShut (death_number 0 (record { 0 = place }) es) s.events j
       → IsStoreRun s.words opening_state j → ShutTo es stores less next js'
   one_shut j next js' up more shut run =
@@ -66,11 +58,6 @@ module _ (es : List Entry) (stores rest : List StoreView) (place : ℕ) (js : Li
             (each_more es heap 0 place to.done js s j (let m = to.many in omega (arith, m)) (to.shut heap words) shut
             (subst (λ (n : ℕ). IsStoreRun n opening_state j) (have_at heap to.done (reverse less) s (subst (HaveWords heap) split words)) run));
       }
-
-pub all_shut : (es : List Entry) (stores rest : List StoreView) (place : ℕ) (js : List (List PlaceEvent)) → ShutTo es stores rest place js → length rest ≡ 0 → (heap : ℕ) → HaveWords heap stores → EachShut es heap 0 stores js
-all_shut es stores rest place js to none heap words =
-    let same : stores ≡ to.done = to.split ∙ (ap (λ (l : List StoreView). to.done ++ reverse l) (nil_from_length rest none) ∙ append-nil to.done) in
-    subst (λ (l : List StoreView). EachShut es heap 0 l js) (sym same) (to.shut heap words)
 
 -- one journal more
 pub events_more : (a b : AllEvents) (j : Events) (spare : ℕ) → b ≡ record { journals = a.journals ++ j ∷ []; spare = spare } → events_of b ≡ events_of a ++ j.events ∷ []

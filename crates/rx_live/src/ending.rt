@@ -104,7 +104,7 @@ fn answer_of(reply: Reply, notes: Vec<(PlaceId, Note<EventItem>)>) -> Released
 // Lets a ticket go, where there is one.
 fn let_go(ticket: Option<AnyTicket>) {
     match ticket {
-        Some(ticket) => ticket.lost(PlaceId(0), 0),
+        Some(ticket) => ticket.spent(),
         None => {}
     }
 }

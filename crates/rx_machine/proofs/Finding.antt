@@ -60,10 +60,6 @@ get_before [] y (suc n) h = refl
 get_before (x ∷ xs) y zero h = refl
 get_before (x ∷ xs) y (suc n) h = get_before xs y n (λ e. h (ap suc e))
 
-pub get_beyond : {X : Type 0} (xs : List X) → slice_get xs (length xs) ≡ None
-get_beyond [] = refl
-get_beyond (x ∷ xs) = get_beyond xs
-
 -- two numbers are equal or not
 pub same_or_not : (n i : ℕ) → (n ≡ i) ⊎ (n ≢ i)
 same_or_not n i =

@@ -1,6 +1,6 @@
 -- One step more of a task that makes its turn.
-use Rattle.std.proofs.Common.{◌≡◌, ℕ, ◌+◌, ◌*◌, ◌≤◌, Bool, false, List, [], ◌∷◌, ◌++◌, reverse, length, Some, None, slice_set, refl, ap, ◌∙◌, sym, subst, arith}
-use Rattle.rx_rules.proofs.Common.{PlaceId, TaskId, Block, work, Term, Vars, Answer, answered, vars_after, Does, Local, Makes, Gets, Puts, Forgets, Opens, Calls, Spawns, Waits, Releases, Prints, Counts, Done, does, begins, Tree, inner, State, MayCell, after_cell, Tells, begun, journal_at, Given, Game, Player, RunsWithoutEntry, stays, local, stores, tree_in}
+use Rattle.std.proofs.Common.{◌≡◌, ℕ, ◌+◌, ◌*◌, ◌≤◌, false, List, [], ◌∷◌, ◌++◌, reverse, length, Some, None, slice_set, refl, ap, ◌∙◌, sym, subst, arith}
+use Rattle.rx_rules.proofs.Common.{PlaceId, TaskId, Block, work, Term, Vars, Answer, answered, vars_after, Does, Local, Releases, does, begins, Tree, inner, State, MayCell, after_cell, Tells, begun, journal_at, Given, Game, Player, RunsWithoutEntry, stays, local, stores, tree_in}
 use Rattle.rx_rules.specs.declared.tasks.Task.{Task}
 use Rattle.rx_rules.specs.declared.events.Cell.{Cell}
 use Rattle.rx_rules.specs.declared.events.PlaceEvent.{PlaceEvent}
@@ -10,8 +10,7 @@ use Rattle.rx_runs.specs.Steps.{steps, Sinks, TermSinks}
 use Rattle.rx_runs.specs.Left.{FewLeft, GoingSinks}
 use Rattle.rx_history.specs.Setups.{given}
 use Rattle.rx_syntax.specs.Shape.{Shape}
-use Rattle.rx_history.specs.declared.step.Next.TheVariants.{Local as LocalStep, Book, Done as Ended}
-use Rattle.rx_history.specs.declared.step.Want.{Want}
+use Rattle.rx_history.specs.declared.step.Next.TheVariants.{Local as LocalStep}
 use Rattle.rx_history.specs.declared.step.Next.{Next}
 use Rattle.rx_history.specs.Next.{next_of}
 use Rattle.rx_control.specs.Stands.{StandsFor, AfterLocalStep}
@@ -27,7 +26,7 @@ use Rattle.rx_machine.specs.Slots.{IsSeat, own_kinds, seat_of}
 use Rattle.rx_store.specs.Kepts.{StoresAre}
 use Rattle.rx_machine.proofs.SeatTaken.{row-same}
 use Rattle.rx_machine.specs.Holds.{Shares, Acting}
-use Rattle.rx_machine.specs.Inside.Requests.{AsksOrEnds, OnlyStores, AfterStep}
+use Rattle.rx_machine.specs.Inside.Requests.{OnlyStores, AfterStep}
 use Rattle.rx_tree_laws.proofs.Holding.{AfterLocal, after-local}
 use Rattle.rx_tree_laws.proofs.Granting.{not_held}
 use Rattle.rx_tree_laws.proofs.Spines.{LeavesSpine, spine-local}
@@ -107,36 +106,6 @@ moved-seat {T = T} {seat = seat} r mover' s who waits term vars free held still 
     }
 
 -- What the control tells.
-
-pub asked_book : (d : Does) (w : Want) → next_of d ≡ Book w → AsksOrEnds d
-asked_book (Local left vars) w e = cc
-asked_book (Makes name words) w e = cc
-asked_book (Gets name target index) w e = cc
-asked_book (Puts target index value) w e = cc
-asked_book (Forgets target) w e = cc
-asked_book Opens w e = tt
-asked_book (Calls place) w e = tt
-asked_book (Spawns place) w e = tt
-asked_book (Waits faults) w e = tt
-asked_book Releases w e = tt
-asked_book (Prints value) w e = tt
-asked_book (Counts name) w e = tt
-asked_book (Done faults) w e = tt
-
-pub asked_done : (d : Does) → next_of d ≡ Ended → AsksOrEnds d
-asked_done (Local left vars) e = cc
-asked_done (Makes name words) e = cc
-asked_done (Gets name target index) e = cc
-asked_done (Puts target index value) e = cc
-asked_done (Forgets target) e = cc
-asked_done Opens e = tt
-asked_done (Calls place) e = tt
-asked_done (Spawns place) e = tt
-asked_done (Waits faults) e = tt
-asked_done Releases e = tt
-asked_done (Prints value) e = tt
-asked_done (Counts name) e = tt
-asked_done (Done faults) e = tt
 
 -- Local steps.
 

@@ -61,9 +61,6 @@ turn-adds U k G G' true planned (moves x here p q S Z j act (none_due, pick) at 
 turn-adds U k G G' true planned (ends x here p q S Z j f (none_due, pick) at player store goes done may) = record { entry = Step x.number (End f) q.batch; entries = refl; uses = λ es. pick-more es x.number (End f) q.batch }
 turn-adds U k G G' false planned (root lost masked thrown none_due none_enabled may) = record { entry = Root lost masked thrown; entries = refl; uses = λ es. no-pick-more es (Root lost masked thrown) refl }
 
-pub turn-uses : (U : Given) (k : ℕ) (G G' : Game) (used : Bool) → ((e : Entry) → IsDue (length G.entries) e G.plan → IsPlanned e) → Turn U k G used G' → picks_in G'.entries ≡ used_after used (picks_in G.entries)
-turn-uses U k G G' used planned t = let a = turn-adds U k G G' used planned t in ap picks_in a.entries ∙ a.uses G.entries
-
 -- Turns from a game on.
 
 -- after i turns from a game on, of which j used a pick, the machine stands for a game

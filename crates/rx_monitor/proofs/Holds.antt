@@ -12,7 +12,7 @@ use Rattle.rx_monitor.specs.Inside.ShownLists.{opening_view, noted, met, settled
 use Rattle.rx_monitor.specs.Inside.Pages.{board_of}
 use Rattle.rx_monitor.specs.Inside.Ties.{label_of, IsOf}
 use Rattle.rx_monitor.specs.Inside.Holding.{Writes, Reads}
-use Rattle.rx_monitor.proofs.Beginnings.{longer-first, longer-second}
+use Rattle.rx_monitor.proofs.Beginnings.{longer-second}
 
 abbrev Sp : Type 0
 Sp = Seat Summary View
@@ -37,9 +37,6 @@ module _ {R : Type 0} (tie : R → Tie) (z : TableId) where
 -- the last item of the longer list
 pub ends_second : (xs ys : List Summary) (y : Summary) → IsPrefix ys (longer xs ys) → length xs ≤ length ys → EndsWith ys y → EndsWith (longer xs ys) y
 ends_second xs ys y p le e = (e.0, longer-second xs ys p le ∙ e.1)
-
-pub ends_first : (xs ys : List Summary) (x : Summary) → length ys ≤ length xs → EndsWith xs x → EndsWith (longer xs ys) x
-ends_first xs ys x le e = (e.0, longer-first xs ys le ∙ e.1)
 
 -- the writer after a page was shown
 pub writes_again : {W : Type 0} (w w' : W) (page : W → Page) (z : TableId) (mark : Sp) (writer dest : Option W) → Writes page z mark writer → writer ≡ Some w → dest ≡ Some w' → board_of (label_of (page w')) ≡ board_of (label_of (page w)) → Writes page z mark dest

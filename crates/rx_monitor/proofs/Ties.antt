@@ -1,6 +1,6 @@
 -- Each step of a handle keeps the tie.
-use Rattle.std.proofs.Common.{◌≡◌, ◌≢◌, ℕ, Some, List, [], ◌∷◌, ◌++◌, zero, suc, set, refl, sym, ◌∙◌, ap, subst, ⊎_elim}
-use mathlib.Core.Option.{some, some-injective, some-ne-none}
+use Rattle.std.proofs.Common.{◌≡◌, ◌≢◌, ℕ, Some, List, [], ◌∷◌, ◌++◌, set, refl, sym, ◌∙◌, ap, subst, ⊎_elim}
+use mathlib.Core.Option.{some}
 use Rattle.std.specs.declared.snapshot.Snapshot.{Snapshot}
 use Rattle.atomic_table.specs.declared.shared.Seat.{Seat}
 use Rattle.rx_monitor.specs.declared.summary.Summary.{Summary}
@@ -24,10 +24,6 @@ module _ (p : Page) where
 
   snoc_tied : (ties : List Tie) (w : Tie) → Tied p ties → ((z : TableId) → IsOf z w → z ≡ board_of (label_of p)) → Tied p (ties ++ w ∷ [])
   snoc_tied ties w h new j u e = ⊎_elim (h j u) (λ (same : w ≡ u). subst (λ (x : Tie). (z : TableId) → IsOf z x → z ≡ board_of (label_of p)) same new) (at_snoc ties w u j e)
-
-pub opens : (p : Page) → Tied p (untied ∷ [])
-opens p zero t at = subst (λ (x : Tie). (z : TableId) → IsOf z x → z ≡ board_of (label_of p)) (some-injective untied t at) (untied_is p)
-opens p (suc j) t at = absurd (some-ne-none t (sym at))
 
 pub admits : Admits Tied untied
 admits p ties h = snoc_tied p ties untied h (untied_is p)

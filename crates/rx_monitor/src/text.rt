@@ -6,7 +6,7 @@ ghost use Rattle.rx_monitor.specs.Text.{field, dead_part, line, watch_text};
 
 use crate::Summary;
 use rx_base::{NoMemory, PlaceId, PlaceSet};
-use rx_text::put_natural;
+use rx_text::{put_natural, put_text};
 
 /// Appends a line for each summary, in their order. A refusal leaves `out` as it was. It takes time and memory in proportion to the
 /// text.
@@ -43,14 +43,6 @@ fn put_line(out: &mut Vec<u8>, seen: &Summary) -> Result<(), NoMemory>
     put_field(out, seen.travel)?;
     put_dead(out, seen.dead)?;
     put_text(out, b"\n")
-}
-
-// A text as it is.
-fn put_text(out: &mut Vec<u8>, text: &[u8]) -> Result<(), NoMemory>
-    ensures { OnOk result (out.new.items ≡ out.old.items ++ text.now) }
-{
-    out.extend_from_slice(text)?;
-    Ok(())
 }
 
 // A number after a blank.

@@ -24,7 +24,7 @@ use Rattle.rx_parts.specs.Places.{MadeEvent, journal_of, seen_by}
 use Rattle.rx_parts.specs.Parts.{EachPlace, AreParts}
 use Rattle.rx_parts.specs.Closing.{StampedTo, ClosedBy, EachClosed}
 use Rattle.rx_parts.specs.Calling.{top_stamp}
-use Rattle.rx_parts.proofs.Lists.{got_set, got_other, got_map, one_item}
+use Rattle.rx_parts.proofs.Lists.{got_set, got_map, one_item}
 use Rattle.rx_parts.proofs.Growing.{ledger-opens, top-stamp}
 use Rattle.rx_parts.proofs.Reading.{root-ends}
 use Rattle.rx_parts.proofs.Closing.{parts-run}
@@ -41,6 +41,7 @@ use Rattle.rx_objects.specs.Ending.{IsMet, MeetingShows, MeetingHears, PlaceEnds
 use Rattle.rx_objects.proofs.Staying.{entries_same}
 use Rattle.rx_objects.proofs.Places.{journal_same, carried_same, prefix_items, top_same, met_one}
 use Rattle.rx_objects.proofs.Named.{noted_are_named}
+use Rattle.rx_runs.proofs.Fitting.{set_other}
 
 -- Histories without entries.
 
@@ -70,7 +71,7 @@ meeting_shows place views p v w n got met = ((w, got_set views p.0 v w got, met.
                 subst (λ (k : ℕ). slice_get (slice_set views p.0 w) k ≡ Some w) e.1 (got_set views p.0 v w got),
                 prefix-trans (note_view m.1).seen v.seen w.seen (subst (λ (x : View EventItem). IsPrefix (note_view m.1).seen x.seen) one front) met.ours,
               )
-          | inr o ↦ (u, got_other views p.0 m.0.0 w o.1 ∙ there, front)
+          | inr o ↦ (u, set_other views p.0 m.0.0 w o.1 ∙ there, front)
         ]
 
 -- Notes that places kept.

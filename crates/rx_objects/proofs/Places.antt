@@ -141,21 +141,6 @@ met_dead Q v n w met ours theirs =
       | inr le ↦ subst Q (sym (met.newer.1 (omega (arith, e)))) theirs
     ]
 
--- a pass that met no note
-pub stayed : (f : PlaceFixed) (log : List (Stamped EventItem)) (caller : List ℕ) (op : PlaceOp) → PlaceFits f log caller op → CameBack f op.pass op.pass
-stayed f log caller op fits =
-    record {
-      word = refl;
-      number = refl;
-      splits = refl;
-      mine = refl;
-      more = prefix-self (view_of op.pass).seen;
-      alone = refl;
-      lawful = fits.lawful;
-      reach = omega arith;
-      alive = fits.alive;
-    }
-
 module _ (f : PlaceFixed) (log : List (Stamped EventItem)) (caller : List ℕ) (op : PlaceOp) (fits : PlaceFits f log caller op) (w : Pass EntryItem) (n : Note EntryItem) (items : List EventItem)
     (keeps : NoteKeeps f.ledger f.place items n) (met : Met shown (view_of op.pass) (note_view n) (view_of w)) (word : word_of w ≡ f.ledger.word) where
   pub came_back : CameBack f op.pass w

@@ -1,9 +1,8 @@
 -- What the main activity may ask before its first entry.
 use Rattle.std.proofs.Common.{◌≡◌, ℕ, ◌≤◌, List, [], ◌∷◌, map, Option, Some, None, slice_get, refl, ap, sym, ◌∙◌, subst, arith}
 use Rattle.std.proofs.lemmas.Option.{same_Some}
-use Rattle.rx_rules.proofs.Common.{TaskId, Block, Empty, items, no_vars, does, begins, Does, Local, Makes, Gets, Puts, Forgets, Opens, Calls, Spawns, Waits, Releases, Prints, Counts, Done, tree_of, Given, Folds, Cells, cell_of}
-use Rattle.std.specs.List.{filter_map}
-use Rattle.rx_history.specs.declared.step.Next.TheVariants.{Cell as CellStep, Book as BookStep}
+use Rattle.rx_rules.proofs.Common.{Block, Empty, items, no_vars, does, begins, tree_of, Given, Folds, Cells}
+use Rattle.rx_history.specs.declared.step.Next.TheVariants.{Book as BookStep}
 use Rattle.rx_history.specs.declared.step.Want.TheVariants.{Open as WantOpen}
 use Rattle.rx_history.specs.Next.{next_of}
 use Rattle.rx_history.specs.Setups.{given}
@@ -18,24 +17,21 @@ use Rattle.rx_book.specs.declared.views.Stamped.{Stamped}
 use Rattle.rx_book.specs.declared.views.View.{View}
 use Rattle.rx_book.specs.declared.passes.Note.{Note}
 use Rattle.rx_book.specs.History.{items_of}
-use Rattle.rx_book.specs.Passes.{view_of}
 use Rattle.rx_parts.specs.Ledger.{LegalLedger, RootIsLast, AllMake, main_actor, entries_of, Walks, stays}
-use Rattle.rx_parts.specs.Places.{journal_of}
 use Rattle.rx_parts.proofs.Growing.{ledger-opens}
 use Rattle.rx_parts.specs.declared.items.EntryItem.{EntryItem}
 use Rattle.rx_parts.specs.declared.items.EventItem.{EventItem}
-use Rattle.rx_parts.specs.Histories.{event_named, ledger_items, made_events}
+use Rattle.rx_parts.specs.Histories.{event_named, ledger_items}
 use Rattle.rx_objects.specs.declared.ledger.LedgerFixed.{LedgerFixed}
 use Rattle.rx_objects.specs.declared.ledger.LedgerOp.{LedgerOp}
-use Rattle.rx_objects.specs.declared.place.PlaceOp.{PlaceOp}
-use Rattle.rx_objects.specs.declared.place.PlaceFixed.{PlaceFixed}
 use Rattle.rx_objects.specs.Ledger.{LedgerIsLegal}
 use Rattle.rx_objects.specs.Mentioned.{events_new, entries_in}
 use Rattle.rx_objects.specs.Asking.{Requests, Suits, RequestIsMade, HostAsks}
 use Rattle.rx_objects.specs.Noted.{NoteSuits}
-use Rattle.rx_objects.specs.Laws.{AsksLedger, CallIsShown}
+use Rattle.rx_objects.specs.Laws.{AsksLedger}
 use Rattle.rx_objects.proofs.Fitting.{none_new}
 use Rattle.rx_objects.proofs.Ending.{objects_open}
+use Rattle.rx_plan.proofs.Requests.{asks_open}
 
 -- the history without entries
 pub opened : (f : LedgerFixed) (seen : List (Stamped EntryItem)) → 1 ≤ f.setup.places → f.setup.places ≤ 16 → seen ≡ [] → LedgerIsLegal f seen
@@ -54,47 +50,6 @@ module _ (code : Block) (f : LedgerFixed) (seen : List (Stamped EntryItem)) (som
         actors = main_actor code U.places ∷ [];
         made = subst (λ (l : List (Stamped EntryItem)). AllMake 0 (main_actor code U.places ∷ []) (ledger_items l) (main_actor code U.places ∷ [])) (sym none) refl;
       }
-
-pub main_call : (code : Block) (f : PlaceFixed) (v : View EventItem) (op : PlaceOp) → 1 ≤ f.ledger.fixed.setup.places → f.ledger.fixed.setup.places ≤ 16 → f.place.0 ≡ 0 → v.number ≡ [] → v.seen ≡ []
-    → (view_of op.pass).number ≡ [] → (view_of op.pass).seen ≡ [] → op.mark.task ≡ record { 0 = 0 }
-    → next_of (does (no_vars f.ledger.fixed.setup.places) 0 (items code [] Empty)) ≡ CellStep op.op → begins (items code [] Empty) ≡ Some op.mark.path → CallIsShown code f v op
-main_call code f v op some few place seat unseen number none task next begun =
-    record {
-      does = does (no_vars f.ledger.fixed.setup.places) 0 (items code [] Empty);
-      asks = next;
-      call = record {
-        legal = first code f.ledger.fixed (view_of op.pass).seen some few none;
-        actor = main_actor code f.ledger.fixed.setup.places;
-        stands = ap (λ (t : TaskId). slice_get (main_actor code f.ledger.fixed.setup.places ∷ []) t.0) task;
-        here = refl;
-        place = sym place;
-        seated = seat;
-        since = [];
-        earlier = ap (λ (l : List (Stamped EventItem)). filter_map (cell_of op.mark.task.0) (journal_of (made_events l))) unseen;
-        stand = (main_actor code f.ledger.fixed.setup.places).stand;
-        walks = stays;
-        asks = refl;
-        begins = begun;
-        above = omega arith;
-      };
-      held = sym number;
-    }
-
--- the first entry opens a finish
-next_opens : (d : Does) → next_of d ≡ BookStep WantOpen → d ≡ Opens
-next_opens (Local left vars) h = absurd (let f : ⊥ = cc h in f)
-next_opens (Makes name words) h = absurd (let f : ⊥ = cc h in f)
-next_opens (Gets name target index) h = absurd (let f : ⊥ = cc h in f)
-next_opens (Puts target index value) h = absurd (let f : ⊥ = cc h in f)
-next_opens (Forgets target) h = absurd (let f : ⊥ = cc h in f)
-next_opens Opens h = refl
-next_opens (Calls place) h = absurd (let f : ⊥ = cc h in f)
-next_opens (Spawns place) h = absurd (let f : ⊥ = cc h in f)
-next_opens (Waits faults) h = absurd (let f : ⊥ = cc h in f)
-next_opens Releases h = absurd (let f : ⊥ = cc h in f)
-next_opens (Prints value) h = absurd (let f : ⊥ = cc h in f)
-next_opens (Counts name) h = absurd (let f : ⊥ = cc h in f)
-next_opens (Done faults) h = absurd (let f : ⊥ = cc h in f)
 
 pub main_opens : (code : Block) (f : LedgerFixed) (v : View EntryItem) (op : LedgerOp) (path : List ℕ) → 1 ≤ f.setup.places → f.setup.places ≤ 16 → v.number ≡ [] → v.seen ≡ []
     → op.request ≡ record { ticket = Running main_caller; ask = AskOpen; batch = []; path = Some path } → op.mentions.before.value ≡ op.mentions.now.value → op.note ≡ None
@@ -136,5 +91,5 @@ main_opens code f v op path some few number none asks same no_note next begun =
             asks = refl;
           };
           place = refl;
-          suited = (next_opens (does (no_vars f.setup.places) 0 (items code [] Empty)) next, begun);
+          suited = (asks_open (does (no_vars f.setup.places) 0 (items code [] Empty)) next, begun);
         }

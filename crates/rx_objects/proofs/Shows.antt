@@ -4,7 +4,6 @@ use Rattle.std.proofs.Math.Bool.{or-true}
 use Rattle.std.proofs.Math.Seq.{take-length, take-append_seam}
 use Rattle.std.proofs.lemmas.List.{append-nil, length-take-le, take-take}
 use Rattle.rx_rules.proofs.Common.{has_bit, all_places, MembersMakeTheSet, PlaceSet, tree_of}
-use Rattle.rx_base.proofs.Bools.{same-or-false}
 use Rattle.rx_base.proofs.Elements.{last-is}
 use Rattle.rx_rules.specs.declared.entries.Entry.{Entry}
 use Rattle.rx_rules.specs.declared.entries.Entry.TheVariants.{Step, Root, Death, Join}
@@ -81,10 +80,6 @@ one_more places es last old new s is =
       shown_are = is ∙ (ap (λ (l : List Summary). l ++ summary_of places es (length es) ∷ []) s.shown_are ∙ sym (map_snoc (summary_of places es) (s.earlier ++ last ∷ []) (length es)));
     }
 
-or_there : (a b : Bool) → b ≡ true → (a || b) ≡ true
-or_there true b e = refl
-or_there false b e = e
-
 dies_later : (p n : ℕ) (es : List Entry) → dies_in p (take n es) ≡ true → dies_in p es ≡ true
 dies_later p zero es e = absurd (let f : ⊥ = cc e in f)
 dies_later p (suc n) [] e = e
@@ -109,12 +104,6 @@ may_show k last shown s x ends =
     )
 
 -- A call.
-
-pub same_shows : (k : KeeperView) (before : ℕ) (late : Bool) (board : Option Listing) → before ≡ length k.entries → BoardShows k.setup.places (take before k.entries) late board
-    → BoardShows k.setup.places k.entries (late || not true) board
-same_shows k before late board is h =
-    subst (λ (b : Bool). BoardShows k.setup.places k.entries b board) (same-or-false late)
-    (subst (λ (es : List Entry). BoardShows k.setup.places es late board) (ap (λ (n : ℕ). take n k.entries) is ∙ take-length k.entries) h)
 
 pub may_follow : (k : KeeperView) (before : ℕ) (late : Bool) (l : Listing) → before ≤ length k.entries → BoardShows k.setup.places (take before k.entries) late (Some l)
     → (x : Summary) → EndsWith l.list x → MayFollow x (whole_of k)

@@ -166,9 +166,6 @@ rooted_not (Root lost masked thrown ∷ es) x e h = h
 rooted_not (Death d ∷ es) x e h = rooted_not es x e h
 rooted_not (Join d ∷ es) x e h = rooted_not es x e h
 
-never : (b : Bool) → b ≡ false → b ≡ true → ⊥
-never b f t = let e : false ≡ true = sym f ∙ t in let g : ⊥ = cc e in g
-
 is_root_done-is : (r : Reply) → is_root_done r ≡ true → r ≡ RootDone
 is_root_done-is (Opened ticket scope) h = absurd (let f : ⊥ = cc h in f)
 is_root_done-is (Called ticket callee) h = absurd (let f : ⊥ = cc h in f)

@@ -4,7 +4,7 @@ use Rattle.std.specs.List.{cons_option}
 use Rattle.std.proofs.lemmas.Bool.{ne_eqb}
 use Rattle.std.proofs.lemmas.List.{append-nil}
 use Rattle.std.proofs.lemmas.List.Sums.{sum_by-cons}
-use Rattle.rx_rules.proofs.Common.{TaskId, PlaceId, Tree, Allowed, AllowedAct, made, AllAllowed, births, births_of, Starts, Moves, Birth, StartsSo, started_by, move_of, moves_from, birth_in, birth_from}
+use Rattle.rx_rules.proofs.Common.{TaskId, PlaceId, Tree, Allowed, made, AllAllowed, births, births_of, Starts, Moves, Birth, StartsSo, started_by, move_of, moves_from, birth_in, birth_from}
 use Rattle.rx_rules.specs.declared.entries.Act.{Act}
 use Rattle.rx_rules.specs.declared.entries.Act.TheVariants.{Open, At as Calls, Spawn, Arrive, Wait, Release, End, Print, Census}
 use Rattle.rx_rules.specs.declared.entries.Entry.{Entry}
@@ -16,6 +16,7 @@ use Rattle.rx_parts.specs.Ledger.{LedgerItem, Actor, actor_born, ItemMakes, host
 use Rattle.rx_parts.proofs.Lists.{one_item, not_none, inside, outside, past}
 use Rattle.rx_parts.proofs.Changes.{Change, same, lands, goes_on, leaves, changed, came, sized, own_moves}
 use Rattle.rx_parts.proofs.Tasks.{later, ActorOk, ok_step, ok_new}
+use Rattle.rx_tree_laws.proofs.Births.{started-next}
 
 -- Terms.
 
@@ -32,19 +33,8 @@ Numbered size e = (t : TaskId) (act : Act) (batch : List (List ℕ)) → e ≡ S
 pub agree_back : (starts : Starts) (n : ℕ) (before : List Actor) (h : List LedgerItem) (last : List Actor) → AllMake n before h last → Agree starts last → Agree starts before
 agree_back starts n before h last l g k a got = let z = later n before h last l k a got in g k z.0 z.1 ∙ ap Some z.2.start
 
-next_number : (T : Tree) (t : TaskId) (act : Act) → AllowedAct T t act → (c : TaskId) → started_by act ≡ Some c → c.0 ≡ T.next_task
-next_number T t (Open s r x) h c e = absurd (let f : ⊥ = cc in f)
-next_number T t (Calls from to s r b x) h c e = let it : b ≡ c = cc in ap (λ (v : TaskId). v.0) (sym it) ∙ h.asks.3
-next_number T t (Spawn b s from to x) h c e = let it : b ≡ c = cc in ap (λ (v : TaskId). v.0) (sym it) ∙ h.asks.1
-next_number T t (Arrive p) h c e = absurd (let f : ⊥ = cc in f)
-next_number T t (Wait s thrown) h c e = absurd (let f : ⊥ = cc in f)
-next_number T t (Release s lost masked thrown) h c e = absurd (let f : ⊥ = cc in f)
-next_number T t (End thrown) h c e = absurd (let f : ⊥ = cc in f)
-next_number T t (Print value x) h c e = absurd (let f : ⊥ = cc in f)
-next_number T t (Census places x) h c e = absurd (let f : ⊥ = cc in f)
-
 pub numbered : (T : Tree) (size : ℕ) (e : Entry) → Allowed T e → T.next_task ≡ size → Numbered size e
-numbered T size e h s t act batch is c st = next_number T t act (subst (Allowed T) is h) c st ∙ s
+numbered T size e h s t act batch is c st = started-next T t act (subst (Allowed T) is h) c st ∙ s
 
 starts_so : (starts : Starts) (n size : ℕ) (i : LedgerItem) (after : List Actor) (act : Act) (z : Stand) → Agree starts after → ((c : TaskId) → started_by act ≡ Some c → c.0 ≡ size) → ((c : TaskId) → started_by act ≡ Some c → (from to : PlaceId) × (slice_get after size ≡ Some (actor_born n i from to z))) → StartsSo starts z.term z.vars act
 starts_so starts n size i after act z agree num new = either (started_by act) refl where

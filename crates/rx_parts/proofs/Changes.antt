@@ -10,7 +10,8 @@ use Rattle.rx_rules.specs.declared.entries.Entry.TheVariants.{Step, Root, Death,
 use Rattle.rx_rules.specs.Plays.{Fits}
 use Rattle.rx_runs.specs.Segments.{Stand}
 use Rattle.rx_parts.specs.Ledger.{LedgerItem, Actor, Away, Present, Walks, actor_born, actors_born, actor_arrived, actor_granted, actor_ended, IsHostEntry, ItemMakes, hosts, arrives, asks, ends}
-use Rattle.rx_parts.proofs.Lists.{one_item, not_none, inside, outside, got_set, got_other, got_left, got_right}
+use Rattle.rx_parts.proofs.Lists.{one_item, not_none, inside, outside, got_set, got_right}
+use Rattle.rx_runs.proofs.Fitting.{get_left, set_other}
 
 -- the task that the item starts stands behind the others
 abbrev pub StartsNext : ℕ → LedgerItem → List Actor → List Actor → Act → Stand → Type 0
@@ -63,10 +64,10 @@ asked n k i before a t act b z e stands by here walks low fits got v h =
         let one : b ≡ a = one_item (slice_get before k) b a (subst (λ (j : ℕ). slice_get before j ≡ Some b) it stands) got in
         let own : slice_get set k ≡ Some (actor_granted n i act z b) = ap (λ v. slice_get v k) is ∙ subst (λ (j : ℕ). slice_get (slice_set before t.0 (actor_granted n i act z b)) j ≡ Some (actor_granted n i act z b)) it (got_set before t.0 b (actor_granted n i act z b) stands) in
         subst (λ (v : Actor). Changed n k i before (set ++ actors_born n i act z) v) one
-        (actor_granted n i act z b, got_left set (actors_born n i act z) k left ∙ own, goes_on t act z it e by here walks low fits (starts_next n i before set act z size))
+        (actor_granted n i act z b, get_left set (actors_born n i act z) k left ∙ own, goes_on t act z it e by here walks low fits (starts_next n i before set act z size))
     asked_at n k i before a t act b z set e stands by here walks low fits got size left is false h =
         let o : t.0 ≢ k = λ w. true≢false (sym (eq-eqb t.0 k w) ∙ h) in
-        (a, got_left set (actors_born n i act z) k left ∙ ap (λ v. slice_get v k) is ∙ got_other before t.0 k (actor_granted n i act z b) o ∙ got, same (other_moves n k i.entry t act z.batch e o))
+        (a, get_left set (actors_born n i act z) k left ∙ ap (λ v. slice_get v k) is ∙ set_other before t.0 k (actor_granted n i act z b) o ∙ got, same (other_moves n k i.entry t act z.batch e o))
 
 pub changed : {n : ℕ} {before after : List Actor} {i : LedgerItem} → ItemMakes n before i after → (k : ℕ) (a : Actor) → slice_get before k ≡ Some a → Changed n k i before after a
 changed {n = n} {i = i} (hosts h) k a got = (a, got, same (host_moves n k i.entry h))
@@ -79,7 +80,7 @@ changed {n = n} {before = before} {i = i} (arrives t p b e stands by away none) 
       (actor_arrived n i p b, subst (λ (j : ℕ). slice_get (slice_set before t.0 (actor_arrived n i p b)) j ≡ Some (actor_arrived n i p b)) it (got_set before t.0 b (actor_arrived n i p b) stands), lands t p it e by away none)
   either false h =
       let o : t.0 ≢ k = λ w. true≢false (sym (eq-eqb t.0 k w) ∙ h) in
-      (a, got_other before t.0 k (actor_arrived n i p b) o ∙ got, same (other_moves n k i.entry t (Arrive p) [] e o))
+      (a, set_other before t.0 k (actor_arrived n i p b) o ∙ got, same (other_moves n k i.entry t (Arrive p) [] e o))
 changed {n = n} {before = before} {i = i} (asks t act b z e stands by here walks low fits) k a got = asked n k i before a t act b z e stands by here walks low fits got (t.0 == k) refl
 changed {n = n} {before = before} {i = i} (ends t faults b z e stands by here walks low done) k a got = either (t.0 == k) refl where
   either : (v : Bool) → (t.0 == k) ≡ v → Changed n k i before (slice_set before t.0 (actor_ended n i faults z b)) a
@@ -90,7 +91,7 @@ changed {n = n} {before = before} {i = i} (ends t faults b z e stands by here wa
       (actor_ended n i faults z b, subst (λ (j : ℕ). slice_get (slice_set before t.0 (actor_ended n i faults z b)) j ≡ Some (actor_ended n i faults z b)) it (got_set before t.0 b (actor_ended n i faults z b) stands), leaves t faults z it e by here walks low done)
   either false h =
       let o : t.0 ≢ k = λ w. true≢false (sym (eq-eqb t.0 k w) ∙ h) in
-      (a, got_other before t.0 k (actor_ended n i faults z b) o ∙ got, same (other_moves n k i.entry t (End faults) z.batch e o))
+      (a, set_other before t.0 k (actor_ended n i faults z b) o ∙ got, same (other_moves n k i.entry t (End faults) z.batch e o))
 
 -- the number of tasks
 born_size : (n : ℕ) (i : LedgerItem) (t : TaskId) (act : Act) (batch : List (List ℕ)) (z : Stand) → length (actors_born n i act z) ≡ births_of (Step t act batch)

@@ -1,13 +1,12 @@
 -- What a pass may ask by what it has seen, it may ask where its call is made.
-use Rattle.std.proofs.Common.{◌≡◌, ◌≢◌, ℕ, Bool, true, false, List, [], ◌∷◌, ◌++◌, length, slice_get, Some, if◌then◌else◌, refl, ap, sym, ◌∙◌, subst}
+use Rattle.std.proofs.Common.{◌≡◌, ◌≢◌, ℕ, Bool, true, false, List, [], ◌∷◌, ◌++◌, slice_get, Some, if◌then◌else◌, refl, ap, sym, ◌∙◌, subst}
 use Rattle.std.proofs.lemmas.List.{append-nil, map-append}
 use Rattle.rx_book.specs.declared.views.Stamped.{Stamped}
 use Rattle.rx_book.specs.Numbers.{is_same}
 use Rattle.rx_book.specs.History.{entries_by}
 use Rattle.rx_book.proofs.Numbers.{is_same-refl}
 use Rattle.rx_book.proofs.History.{entries_by-append}
-use Rattle.rx_parts.specs.Ledger.{LedgerItem, LegalLedger}
-use Rattle.rx_parts.specs.Growing.{NoneBy, MayRequest}
+use Rattle.rx_parts.specs.Growing.{NoneBy}
 use Rattle.rx_parts.specs.Calling.{EachSeated}
 use Rattle.rx_parts.specs.Places.{event_of, journal_of}
 use Rattle.rx_rules.proofs.Common.{cell_of}

@@ -1,8 +1,8 @@
 -- How legal histories grow.
 use Rattle.std.proofs.Common.{◌≡◌, ◌≢◌, false, ℕ, suc, ◌+◌, ◌<◌, ◌≤◌, List, [], ◌∷◌, ◌++◌, length, slice_get, Some, refl, arith, ap, sym, ◌∙◌, subst, append_assoc, inl, inr}
 use Rattle.std.proofs.lemmas.Bool.{ne_eqb}
-use Rattle.std.proofs.lemmas.List.{append-nil, length-map}
-use Rattle.rx_rules.proofs.Common.{TaskId, Block, Does, opening, AllAllowed, Cells, Tells, move_of, Given, Folds, PlanKept, plan_of}
+use Rattle.std.proofs.lemmas.List.{append-nil}
+use Rattle.rx_rules.proofs.Common.{TaskId, Block, Does, Cells, Tells, move_of, Given, Folds}
 use Rattle.rx_base.proofs.Elements.{get-within}
 use Rattle.rx_base.proofs.Prefixes.{prefix-trans}
 use Rattle.rx_rules.specs.declared.entries.Act.{Act}
@@ -11,9 +11,6 @@ use Rattle.rx_rules.specs.declared.entries.Entry.{Entry}
 use Rattle.rx_rules.specs.declared.entries.Entry.TheVariants.{Step, Root, Death, Join}
 use Rattle.rx_rules.specs.declared.events.PlaceEvent.{PlaceEvent}
 use Rattle.rx_rules.specs.Plays.{Fits}
-use Rattle.rx_runs.specs.Segments.{InTime, plan_left}
-use Rattle.rx_runs.proofs.Append.{allowed-push}
-use Rattle.rx_runs.proofs.Pushes.{plan-push}
 use Rattle.rx_parts.specs.Ledger.{LedgerItem, Actor, main_actor, ItemMakes, hosts, arrives, asks, ends, AllMake, RootIsLast, LegalLedger, entries_of}
 use mathlib.Core.List.{IsPrefix}
 use Rattle.rx_parts.specs.Places.{MadeEvent, event_of, journal_of, MayMake, LegalFrom, last_carried}
@@ -23,7 +20,6 @@ use Rattle.rx_parts.specs.Closing.{StampedTo}
 use Rattle.rx_parts.specs.Calling.{AllHostItems, Grants, CallStep, HostStep, ArrivalStep, top_stamp, TopStamp, PlaceGrows, EachSeated, SeatMakes, CallKeeps, CallMakes}
 use Rattle.rx_parts.proofs.Lists.{one_item, not_none}
 use Rattle.rx_parts.proofs.Changes.{Change, same, lands, goes_on, leaves, changed, own_moves}
-use Rattle.rx_runs.proofs.RootLast.{root_last-push}
 use Rattle.rx_parts.proofs.Tasks.{later, not_away}
 use Rattle.rx_parts.proofs.Along.{acts_old}
 use Rattle.rx_parts.proofs.Determined.{leads_once, leads_join}

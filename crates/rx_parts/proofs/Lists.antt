@@ -1,5 +1,5 @@
 -- Items of lists by number, and lists that begin with others.
-use Rattle.std.proofs.Common.{◌≡◌, ◌≢◌, ℕ, zero, suc, ◌+◌, ◌<◌, ◌≤◌, List, [], ◌∷◌, ◌++◌, map, length, slice_get, slice_set, Option, Some, None, refl, arith, ap, sym, ◌∙◌}
+use Rattle.std.proofs.Common.{◌≡◌, ℕ, zero, suc, ◌+◌, ◌<◌, ◌≤◌, List, [], ◌∷◌, ◌++◌, map, length, slice_get, slice_set, Option, Some, None, refl, arith, ap, sym, ◌∙◌}
 use mathlib.Core.List.{IsPrefix}
 use Rattle.rx_base.proofs.Elements.{get-set}
 
@@ -27,22 +27,10 @@ past (y ∷ ys) (suc k) h = past ys k (omega arith)
 pub got_set : {X : Type 0} (xs : List X) (k : ℕ) (x y : X) → slice_get xs k ≡ Some x → slice_get (slice_set xs k y) k ≡ Some y
 got_set xs k x y h = get-set xs k y (inside xs k x h)
 
-pub got_other : {X : Type 0} (xs : List X) (k l : ℕ) (y : X) → k ≢ l → slice_get (slice_set xs k y) l ≡ slice_get xs l
-got_other [] k l y h = refl
-got_other (z ∷ zs) zero zero y h = absurd (h refl)
-got_other (z ∷ zs) zero (suc l) y h = refl
-got_other (z ∷ zs) (suc k) zero y h = refl
-got_other (z ∷ zs) (suc k) (suc l) y h = got_other zs k l y (λ e. h (ap suc e))
-
 pub got_map : {X Y : Type 0} (f : X → Y) (xs : List X) (k : ℕ) (x : X) → slice_get xs k ≡ Some x → slice_get (map f xs) k ≡ Some (f x)
 got_map f [] k x h = cc
 got_map f (y ∷ ys) zero x h = let e : y ≡ x = cc in ap (λ z. Some (f z)) e
 got_map f (y ∷ ys) (suc k) x h = got_map f ys k x h
-
-pub got_left : {X : Type 0} (xs ys : List X) (k : ℕ) → k < length xs → slice_get (xs ++ ys) k ≡ slice_get xs k
-got_left [] ys k h = absurd (omega arith)
-got_left (x ∷ xs) ys zero h = refl
-got_left (x ∷ xs) ys (suc k) h = got_left xs ys k (omega arith)
 
 pub got_right : {X : Type 0} (xs ys : List X) (k : ℕ) → slice_get (xs ++ ys) (length xs + k) ≡ slice_get ys k
 got_right [] ys k = let e : 0 + k ≡ k = omega arith in ap (slice_get ys) e

@@ -1,24 +1,19 @@
 -- What legal histories say, entry by entry and event by event.
-use Rattle.std.proofs.Common.{◌≡◌, ℕ, zero, suc, ◌+◌, ◌<◌, ◌≤◌, Bool, true, false, cond, ◌==◌, List, [], ◌∷◌, ◌++◌, length, slice_get, Option, Some, None, refl, arith, ap, sym, ◌∙◌, subst, append_assoc, inl, inr}
+use Rattle.std.proofs.Common.{◌≡◌, ℕ, zero, suc, ◌+◌, ◌<◌, ◌≤◌, Bool, true, false, cond, ◌==◌, List, [], ◌∷◌, ◌++◌, length, slice_get, Option, Some, None, refl, arith, ap, sym, ◌∙◌, subst, append_assoc}
 use Rattle.std.proofs.lemmas.Bool.{eq-eqb, ne_eqb}
-use Rattle.std.proofs.lemmas.List.{append-nil, length-map, map-append}
-use Rattle.rx_rules.proofs.Common.{PlaceId, TaskId, Block, does, Starts, Cells, Moves, Birth, BeginsWithArrival, birth_of, travels, move_of, moves_from, Given, EndsWithRoot, UpTo}
+use Rattle.std.proofs.lemmas.List.{append-nil, map-append}
+use Rattle.rx_rules.proofs.Common.{TaskId, Block, Cells, move_of, Given, EndsWithRoot}
 use Rattle.rx_rules.specs.declared.entries.Act.{Act}
 use Rattle.rx_rules.specs.declared.entries.Act.TheVariants.{Arrive, End}
 use Rattle.rx_rules.specs.declared.entries.Entry.{Entry}
 use Rattle.rx_rules.specs.declared.entries.Entry.TheVariants.{Step, Root, Death, Join}
-use Rattle.rx_rules.specs.Plays.{Fits}
-use Rattle.rx_runs.specs.Segments as segments
-use Rattle.rx_runs.specs.Segments.{Stand, StandGoes}
-use Rattle.rx_runs.proofs.Keeping.{no_arrival}
-use Rattle.rx_parts.specs.Ledger.{LedgerItem, Actor, Walks, stays, local, stores, main_actor, Present, Over, IsHostEntry, ItemMakes, hosts, arrives, asks, ends, AllMake, RootIsLast, LegalLedger, entries_of}
+use Rattle.rx_parts.specs.Ledger.{LedgerItem, Actor, main_actor, ItemMakes, ends, AllMake, RootIsLast, LegalLedger, entries_of}
 use Rattle.rx_parts.specs.Reading.{ActorsSay, is_of, named_by, RootEnds}
-use Rattle.rx_parts.proofs.Lists.{outside, got_map}
+use Rattle.rx_parts.proofs.Lists.{outside}
 use Rattle.rx_parts.proofs.Changes.{Change, same, lands, goes_on, leaves, changed, came}
-use Rattle.rx_parts.proofs.Tasks.{later, ActorOk, away, here, over, LandedBy, begins_of}
-use Rattle.rx_parts.proofs.Along.{Agree, acts_old, sized_along}
-use Rattle.rx_parts.proofs.Determined.{leads_split}
-use Rattle.rx_parts.proofs.Whole.{start_of, starts_of, agrees, legal_ok, legal_moves, legal_birth}
+use Rattle.rx_parts.proofs.Tasks.{here}
+use Rattle.rx_parts.proofs.Along.{acts_old, sized_along}
+use Rattle.rx_parts.proofs.Whole.{legal_moves, legal_birth}
 
 -- The events that entries name.
 

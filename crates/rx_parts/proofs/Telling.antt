@@ -5,21 +5,21 @@ use Rattle.std.proofs.lemmas.List.{map-append}
 use Rattle.rx_rules.proofs.Common.{PlaceId, TaskId, Block, Does, Tree, Allowed, made, AllAllowed, opening, fold_from, Cells, Tells, cell_of, UpTo, Given}
 use Rattle.rx_base.proofs.Elements.{get-last}
 use Rattle.rx_rules.specs.declared.entries.Act.{Act}
-use Rattle.rx_rules.specs.declared.entries.Act.TheVariants.{End}
 use Rattle.rx_rules.specs.declared.entries.Entry.{Entry}
 use Rattle.rx_rules.specs.declared.entries.Entry.TheVariants.{Step}
 use Rattle.rx_rules.specs.Plays.{Fits}
 use Rattle.rx_runs.specs.Segments.{Stand}
-use Rattle.rx_parts.specs.Ledger.{LedgerItem, Actor, Walks, stays, local, stores, main_actor, actor_granted, actor_ended, actor_arrived, actors_born, ItemMakes, arrives, asks, ends, AllMake, entries_of}
+use Rattle.rx_parts.specs.Ledger.{LedgerItem, Actor, Walks, stays, local, stores, main_actor, actor_granted, actor_arrived, actors_born, ItemMakes, arrives, asks, AllMake, entries_of}
 use Rattle.rx_parts.specs.Places.{MadeEvent, event_of, journal_of}
 use Rattle.rx_parts.specs.Closing.{StampedTo}
 use Rattle.rx_parts.specs.Growing.{NoneBy, MayRequest}
 use Rattle.rx_parts.specs.Telling.{IsCall, number_of, RequestTells, BirthTells, ArrivalTells, EventTells}
-use Rattle.rx_parts.proofs.Lists.{inside, got_set, got_left}
+use Rattle.rx_parts.proofs.Lists.{inside, got_set}
 use Rattle.rx_parts.proofs.Along.{Numbered, numbered, size_next}
 use Rattle.rx_parts.proofs.Determined.{makes_once, leads_once, leads_split}
 use Rattle.rx_parts.proofs.Whole.{NoneAbove, cells_up, up_second, walk_low, own_cell}
 use Rattle.rx_parts.proofs.Growing.{stays_along, hosts_lead}
+use Rattle.rx_runs.proofs.Fitting.{get_left}
 
 -- one after another
 pub walked : {here : PlaceId} {a b z : Stand} {cells more : Cells} → Walks here a cells b → Walks here b more z → Walks here a (cells ++ more) z
@@ -102,7 +102,7 @@ request-tells code U g between due i n t act batch d call is le ask fits =
     let size : length (slice_set at.actors t.0 (actor_granted (number_of g between due) i act ask.stand ask.actor)) ≡ length at.actors = length-set at.actors t.0 (actor_granted (number_of g between due) i act ask.stand ask.actor) in
     let low : t.0 < length at.actors = inside at.actors t.0 ask.actor old in
     ap (λ v. slice_get v t.0) (after_request code U g between due i n t act batch d call is le ask fits at)
-    ∙ got_left (slice_set at.actors t.0 (actor_granted (number_of g between due) i act ask.stand ask.actor)) (actors_born (number_of g between due) i act ask.stand) t.0 (omega (arith, size, low))
+    ∙ get_left (slice_set at.actors t.0 (actor_granted (number_of g between due) i act ask.stand ask.actor)) (actors_born (number_of g between due) i act ask.stand) t.0 (omega (arith, size, low))
     ∙ got_set at.actors t.0 ask.actor (actor_granted (number_of g between due) i act ask.stand ask.actor) old
 
 pub arrival-tells : ArrivalTells

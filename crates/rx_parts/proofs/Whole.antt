@@ -226,9 +226,6 @@ at_place code U h p q [] each = inl refl
 at_place code U h p zero (k ∷ ks) each = let e : p ≡ p + 0 = omega arith in inr (k, refl, subst (λ (v : ℕ). LegalPlace code U v k) e each.0, each.1)
 at_place code U h p (suc q) (k ∷ ks) each = let e : suc p + q ≡ p + suc q = omega arith in subst (λ (v : ℕ). (journal_at (journals_of ks) q ≡ []) ⊎ ((k : List MadeEvent) × (journal_at (journals_of ks) q ≡ journal_of k) × LegalPlace code U v k × IsPrefix (seen_by k) h)) e (at_place code U h (suc p) q ks each.2)
 
-cells_at : ℕ → List (List PlaceEvent) → Actor → Cells
-cells_at t js a = filter_map (cell_of t) (journal_at js a.birth.to.0)
-
 one_plays : (starts : Starts) (code : Block) (U : Given) (h : List LedgerItem) (ks : List (List MadeEvent)) (parts : AreParts code U h ks) (t : ℕ) (a : Actor) → Agree starts parts.legal.actors → slice_get parts.legal.actors t ≡ Some a → PlaysHere starts a (filter_map (cell_of t) (journal_at (journals_of ks) a.birth.to.0))
 one_plays starts code U h ks parts t a agree got = at (at_place code U h 0 a.birth.to.0 ks parts.places) where
   full : PlaysHere starts a a.named

@@ -1,5 +1,5 @@
 -- How a legal history of the ledger grows.
-use Rattle.std.specs.Prelude.{◌≡◌, ◌≢◌, false, ℕ, ◌≤◌, List, [], ◌∷◌, ◌++◌, length, Some, slice_get}
+use Rattle.std.specs.Prelude.{◌≡◌, ◌≢◌, false, ℕ, ◌≤◌, List, [], ◌∷◌, ◌++◌, Some, slice_get}
 use Rattle.rx_base.specs.declared.ids.PlaceId.{PlaceId}
 use Rattle.rx_base.specs.declared.ids.TaskId.{TaskId}
 use Rattle.rx_base.specs.declared.values.Fault.{Fault}
@@ -8,12 +8,10 @@ use Rattle.rx_rules.specs.declared.entries.Act.TheVariants.{Arrive, End}
 use Rattle.rx_rules.specs.declared.entries.Entry.TheVariants.{Step}
 use Rattle.rx_rules.specs.Code.{Block}
 use Rattle.rx_rules.specs.Terms.{Does, Done, does}
-use Rattle.rx_rules.specs.Entries.{Allowed}
-use Rattle.rx_rules.specs.Fold.{tree_of}
 use Rattle.rx_rules.specs.Plays.{Cells, Fits}
-use Rattle.rx_rules.specs.Run.{Given, NoRoot, plan_of}
-use Rattle.rx_runs.specs.Segments.{Stand, InTime, plan_left}
-use Rattle.rx_parts.specs.Ledger.{LedgerItem, Actor, Away, Present, Walks, IsHostEntry, ItemMakes, LegalLedger, entries_of}
+use Rattle.rx_rules.specs.Run.{Given}
+use Rattle.rx_runs.specs.Segments.{Stand}
+use Rattle.rx_parts.specs.Ledger.{LedgerItem, Actor, Away, Present, Walks, ItemMakes, LegalLedger}
 use Rattle.rx_parts.specs.Reading.{is_of}
 
 -- the history without entries is legal

@@ -1,5 +1,5 @@
 -- What a pass may ask by what it has seen.
-use Rattle.std.specs.Prelude.{◌≡◌, ℕ, ◌<◌, ◌≤◌, false, Option, Some, List, ◌++◌, length, slice_get}
+use Rattle.std.specs.Prelude.{◌≡◌, ℕ, ◌<◌, ◌≤◌, false, Option, Some, List, ◌++◌, length}
 use mathlib.Core.List.{IsPrefix}
 use Rattle.rx_base.specs.Sets.{has_bit}
 use Rattle.rx_base.specs.declared.ids.PlaceId.{PlaceId}
@@ -12,10 +12,10 @@ use Rattle.rx_book.specs.declared.views.Stamped.{Stamped}
 use Rattle.rx_book.specs.declared.views.View.{View}
 use Rattle.rx_book.specs.History.{entries_by}
 use Rattle.rx_book.specs.Calls.{BeginsWithSeen, Met}
-use Rattle.rx_parts.specs.Ledger.{LedgerItem, Actor, LegalLedger, entries_of}
+use Rattle.rx_parts.specs.Ledger.{LedgerItem, LegalLedger, entries_of}
 use Rattle.rx_parts.specs.Places.{MadeEvent, LegalPlace, journal_of, seen_by}
 use Rattle.rx_parts.specs.Closing.{StampedTo}
-use Rattle.rx_parts.specs.Growing.{NoneBy, MayRequest}
+use Rattle.rx_parts.specs.Growing.{NoneBy}
 use Rattle.rx_parts.specs.Calling.{EachSeated, MayCallStore}
 use Rattle.rx_parts.specs.declared.items.EntryItem.{EntryItem}
 use Rattle.rx_parts.specs.declared.items.EventItem.{EventItem}

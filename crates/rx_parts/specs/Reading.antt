@@ -1,20 +1,13 @@
 -- What legal histories say, entry by entry and event by event.
-use Rattle.std.specs.Prelude.{◌≡◌, ℕ, suc, ◌+◌, ◌<◌, cond, ◌==◌, Bool, false, List, [], ◌∷◌, ◌++◌, length, Some, slice_get}
-use Rattle.rx_base.specs.declared.ids.TaskId.{TaskId}
-use Rattle.rx_base.specs.declared.ids.PlaceId.{PlaceId}
+use Rattle.std.specs.Prelude.{◌≡◌, ℕ, ◌+◌, cond, ◌==◌, Bool, false, List, [], ◌∷◌, ◌++◌, length, Some, slice_get}
 use Rattle.rx_rules.specs.declared.entries.Act.{Act}
-use Rattle.rx_rules.specs.declared.entries.Act.TheVariants.{Arrive}
 use Rattle.rx_rules.specs.declared.entries.Entry.{Entry}
 use Rattle.rx_rules.specs.declared.entries.Entry.TheVariants.{Step}
-use Rattle.rx_rules.specs.declared.events.PlaceEvent.{PlaceEvent}
 use Rattle.rx_rules.specs.Code.{Block}
-use Rattle.rx_rules.specs.Terms.{Empty, no_vars, items}
 use Rattle.rx_rules.specs.Fold.{births}
-use Rattle.rx_rules.specs.Plays.{Starts, Cells, Moves, BeginsWithArrival, birth_of, travels, moves_from}
+use Rattle.rx_rules.specs.Plays.{Cells, birth_of, moves_from}
 use Rattle.rx_rules.specs.Run.{Given, EndsWithRoot}
-use Rattle.rx_rules.specs.Inversions.{UpTo}
 use Rattle.rx_parts.specs.Ledger.{LedgerItem, Actor, LegalLedger, entries_of}
-use Rattle.rx_parts.specs.Places.{MadeEvent, MayMake}
 
 -- the entry is of task t
 abbrev pub is_of : ℕ → Entry → Bool

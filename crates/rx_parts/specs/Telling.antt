@@ -3,16 +3,14 @@ use Rattle.std.specs.Prelude.{◌≡◌, ℕ, ◌≤◌, List, [], ◌∷◌, �
 use Rattle.std.specs.List.{filter_map}
 use Rattle.rx_base.specs.declared.ids.PlaceId.{PlaceId}
 use Rattle.rx_base.specs.declared.ids.TaskId.{TaskId}
-use Rattle.rx_base.specs.declared.values.Fault.{Fault}
 use Rattle.rx_rules.specs.declared.entries.Act.{Act}
-use Rattle.rx_rules.specs.declared.entries.Act.TheVariants.{Arrive, End}
+use Rattle.rx_rules.specs.declared.entries.Act.TheVariants.{Arrive}
 use Rattle.rx_rules.specs.declared.entries.Entry.TheVariants.{Step}
 use Rattle.rx_rules.specs.Code.{Block}
-use Rattle.rx_rules.specs.Terms.{Answer, answered, vars_after, Does, Done}
-use Rattle.rx_rules.specs.Plays.{Cells, Fits, Tells, begun, cell_of, started_by}
+use Rattle.rx_rules.specs.Terms.{Answer, answered, vars_after, Does}
+use Rattle.rx_rules.specs.Plays.{Fits, Tells, begun, cell_of, started_by}
 use Rattle.rx_rules.specs.Run.{Given}
-use Rattle.rx_runs.specs.Segments.{Stand}
-use Rattle.rx_parts.specs.Ledger.{LedgerItem, Actor, Away, Walks, LegalLedger, actor_arrived, actor_granted, actor_ended, actors_born}
+use Rattle.rx_parts.specs.Ledger.{LedgerItem, Actor, Away, Walks, LegalLedger, actor_arrived, actor_granted, actors_born}
 use Rattle.rx_parts.specs.Growing.{NoneBy, MayRequest}
 use Rattle.rx_parts.specs.Places.{MadeEvent, journal_of}
 use Rattle.rx_parts.specs.Closing.{StampedTo}

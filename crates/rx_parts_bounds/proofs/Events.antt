@@ -7,7 +7,7 @@ use Rattle.std.proofs.lemmas.Bool.{eqb-true, eq-eqb, ne_eqb, true≢false}
 use Rattle.std.proofs.lemmas.List.{append-nil}
 use Rattle.std.proofs.lemmas.List.Sums.{sum_by-append, sum_by-cons}
 use mathlib.Core.List.{IsPrefix}
-use Rattle.rx_rules.proofs.Common.{PlaceId, Block, Stmt, work, Term, Vars, Empty, items, Does, Local, does, child, granted, answered, Starts, Cells, Moves, cell_of, brought, Given}
+use Rattle.rx_rules.proofs.Common.{PlaceId, Block, work, Term, Vars, Empty, items, does, child, granted, answered, Starts, Cells, Moves, cell_of, brought, started_by, Given}
 use Rattle.rx_base.proofs.Prefixes.{prefix-trans}
 use Rattle.rx_rules.specs.declared.entries.Act.{Act}
 use Rattle.rx_rules.specs.declared.entries.Act.TheVariants.{At as Calls, Spawn}
@@ -15,7 +15,7 @@ use Rattle.rx_rules.specs.declared.events.PlaceEvent.{PlaceEvent}
 use Rattle.rx_runs.specs.Segments as segments
 use Rattle.rx_runs.specs.Segments.{Stand, StandGoes}
 use Rattle.rx_runs.proofs.Segments.{joined}
-use Rattle.rx_runs.proofs.Paying.{tells_store}
+use Rattle.rx_runs.proofs.Weighing.{share, tells_store}
 use Rattle.rx_parts.specs.Ledger.{LedgerItem, Actor, Away, Present, Over, Walks, stays, local, stores, main_actor, first_stand, actor_born, actors_born, actor_arrived, actor_granted, actor_ended, ItemMakes, hosts, arrives, asks, ends, AllMake, LegalLedger}
 use Rattle.rx_parts.specs.Places.{MadeEvent, event_of, journal_of, LegalFrom, LegalPlace, last_carried, seen_by}
 use Rattle.rx_parts.proofs.Lists.{one_item, inside}
@@ -23,31 +23,26 @@ use Rattle.rx_parts.proofs.Tasks.{later, ActorOk, away, here, over, walk_goes}
 use Rattle.rx_parts.proofs.Whole.{starts_of, agrees, legal_ok, legal_later, seen_from, LastEvent, LastOrNone, last_from, cells_of, low_of}
 use Rattle.rx_parts_bounds.specs.Nesting.{nest}
 use Rattle.rx_parts_bounds.specs.Bounds.{EventsBounded}
-use Rattle.rx_parts_bounds.proofs.Weights.{load, load_items, Leaves, does_leaves, front, answered_down, starts, granted_down}
-use Rattle.rx_parts_bounds.proofs.StoreCalls.{own_of, own, kids_of, kids, own_weighs, kids_weighs, owns, gives, front_one, child_given}
+use Rattle.rx_parts_bounds.proofs.StoreCalls.{own, kids, own_items, kids_items, owns, gives, handed, local_owns, answer_owns, entry_owns, local_gives, answer_gives, entry_gives}
 use Rattle.rx_parts_bounds.proofs.Scripts.{own-work, kids-work}
 
 -- One task.
-
-local_less : (f : Stmt → ℕ) (g : Block → ℕ) (n : ℕ) (after : Term) (vars : Vars) (d : Does) → d ≡ Local after vars → Leaves f g n d → load f g after ≤ n
-local_less f g n after vars d e h = subst (Leaves f g n) e h
 
 -- each event costs a store call of its own
 counted : {begun : Starts} {here : PlaceId} {a z : Stand} {cells : Cells} {moves : Moves} → StandGoes begun here a cells moves z → length cells + owns z.term ≤ owns a.term
 counted segments.stays = omega arith
 counted {here = place} {a = a} {z = z} {cells = cells} (segments.local {after = after} {left = left} e p) =
     let h : length cells + owns z.term ≤ owns after = counted p in
-    let l : owns after ≤ owns a.term = local_less own_of own (owns a.term) after left (does a.vars place.0 a.term) e (does_leaves own_of own own_weighs a.vars place.0 a.term) in
+    let l : owns after + 0 ≤ owns a.term = local_owns a.vars place.0 a.term after left e in
     omega (arith, h, l)
 counted {here = place} {a = a} {z = z} (segments.stores {cells = more} {stamp = stamp} {cell = cell} {x = x} answer le tells b p) =
     let h : length more + owns z.term ≤ owns (answered answer a.term) = counted p in
-    let l : owns (answered answer a.term) + front own_of a.term ≤ owns a.term = answered_down own_of own answer a.term in
-    let one : 1 ≤ front own_of a.term = front_one a.vars place.0 a.term (tells_store (does a.vars place.0 a.term) place cell answer tells) in
+    let l : owns (answered answer a.term) + 1 ≤ owns a.term = answer_owns a.vars place.0 a.term answer (tells_store (does a.vars place.0 a.term) place cell answer tells) in
     let s : length ((stamp, cell, x) ∷ more) ≡ suc (length more) = refl in
-    omega (arith, h, l, one, s)
-counted {a = a} {z = z} {cells = cells} (segments.asks {act = act} le fits so p) =
+    omega (arith, h, l, s)
+counted {here = place} {a = a} {z = z} {cells = cells} (segments.asks {act = act} le fits so p) =
     let h : length cells + owns z.term ≤ owns (granted (brought act) a.term) = counted p in
-    let l : owns (granted (brought act) a.term) + starts own_of a.term ≤ owns a.term = granted_down own_of own own_weighs (brought act) a.term in
+    let l = entry_owns a.vars place a.term act fits in
     omega (arith, h, l)
 
 -- a walk gives nothing more away
@@ -55,11 +50,11 @@ walk_gives : {here : PlaceId} {a z : Stand} {cells : Cells} → Walks here a cel
 walk_gives stays = omega arith
 walk_gives {here = place} {a = a} {z = z} (local {after = after} {left = left} e w) =
     let h : gives z.term ≤ gives after = walk_gives w in
-    let l : gives after ≤ gives a.term = local_less kids_of kids (gives a.term) after left (does a.vars place.0 a.term) e (does_leaves kids_of kids kids_weighs a.vars place.0 a.term) in
+    let l : gives after + 0 ≤ gives a.term = local_gives a.vars place.0 a.term after left e in
     omega (arith, h, l)
-walk_gives {a = a} {z = z} (stores answer le tells b w) =
+walk_gives {here = place} {a = a} {z = z} (stores {cell = cell} answer le tells b w) =
     let h : gives z.term ≤ gives (answered answer a.term) = walk_gives w in
-    let l : gives (answered answer a.term) + front kids_of a.term ≤ gives a.term = answered_down kids_of kids answer a.term in
+    let l : gives (answered answer a.term) + 0 ≤ gives a.term = answer_gives a.vars place.0 a.term answer (tells_store (does a.vars place.0 a.term) place cell answer tells) in
     omega (arith, h, l)
 
 -- All tasks.
@@ -85,12 +80,11 @@ sum_set (v ∷ xs) (suc k) x y h =
     let two : total (v ∷ xs) ≡ weight v + total xs = sum_by-cons weight v xs in
     omega (arith, r, one, two)
 
-born_one : (n : ℕ) (i : LedgerItem) (from to : PlaceId) (z : Stand) → total (actor_born n i from to z ∷ []) ≤ starts kids_of z.term
+born_one : (n : ℕ) (i : LedgerItem) (from to : PlaceId) (z : Stand) → total (actor_born n i from to z ∷ []) ≤ owns (child z.term) + gives (child z.term)
 born_one n i from to z =
-    let one : total (actor_born n i from to z ∷ []) ≡ weight (actor_born n i from to z) + 0 = sum_by-cons weight (actor_born n i from to z) [] in
-    let two : owns (child z.term) + gives (child z.term) ≤ starts kids_of z.term = child_given z.term in omega (arith, one, two)
+    let one : total (actor_born n i from to z ∷ []) ≡ weight (actor_born n i from to z) + 0 = sum_by-cons weight (actor_born n i from to z) [] in omega (arith, one)
 
-born_total : (n : ℕ) (i : LedgerItem) (act : Act) (z : Stand) → total (actors_born n i act z) ≤ starts kids_of z.term
+born_total : (n : ℕ) (i : LedgerItem) (act : Act) (z : Stand) → total (actors_born n i act z) ≤ share handed (child z.term) (started_by act)
 born_total n i (Calls from to s r c x) z = born_one n i from to z
 born_total n i (Spawn c s from to x) z = born_one n i from to z
 born_total n i _ z = omega arith
@@ -105,8 +99,8 @@ makes_total {n = n} {before = before} {i = i} (asks t act a z e got by there wal
     let s : total (slice_set before t.0 (actor_granted n i act z a)) + weight a ≡ total before + weight (actor_granted n i act z a) = sum_set before t.0 a (actor_granted n i act z a) got in
     let w : weight (actor_granted n i act z a) ≡ owns a.start.0 + gives (granted (brought act) z.term) = refl in
     let v : weight a ≡ owns a.start.0 + gives a.stand.term = refl in
-    let b : total (actors_born n i act z) ≤ starts kids_of z.term = born_total n i act z in
-    let g : gives (granted (brought act) z.term) + starts kids_of z.term ≤ gives z.term = granted_down kids_of kids kids_weighs (brought act) z.term in
+    let b : total (actors_born n i act z) ≤ share handed (child z.term) (started_by act) = born_total n i act z in
+    let g : gives (granted (brought act) z.term) + share handed (child z.term) (started_by act) + 0 ≤ gives z.term = entry_gives z.vars a.birth.to z.term act fits in
     let l : gives z.term ≤ gives a.stand.term = walk_gives walks in
     let all : total (slice_set before t.0 (actor_granted n i act z a) ++ actors_born n i act z) ≡ total (slice_set before t.0 (actor_granted n i act z a)) + total (actors_born n i act z) = sum_by-append weight (slice_set before t.0 (actor_granted n i act z a)) (actors_born n i act z) in
     omega (arith, s, w, v, b, g, l, all)
@@ -227,8 +221,8 @@ seen_legal code U p before low seen (m ∷ k) h legal = seen_legal code U p (bef
 
 script_weighs : (code : Block) (places : ℕ) → total (main_actor code places ∷ []) ≤ (1 + nest code) * work code
 script_weighs code places =
-    let a : owns (items code [] Empty) ≡ own code + 0 = load_items own_of own own_weighs code [] 0 Empty in
-    let b : gives (items code [] Empty) ≡ kids code + 0 = load_items kids_of kids kids_weighs code [] 0 Empty in
+    let a : owns (items code [] Empty) ≡ own code + 0 = own_items code [] in
+    let b : gives (items code [] Empty) ≡ kids code + 0 = kids_items code [] in
     let c : own code ≤ work code = own-work code in
     let d : kids code ≤ nest code * work code = kids-work code in
     let s : 1 + nest code ≡ suc (nest code) = omega arith in

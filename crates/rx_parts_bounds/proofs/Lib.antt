@@ -1,4 +1,3 @@
-pub mod Weights
 pub mod StoreCalls
 pub mod Scripts
 pub mod Entries

@@ -1,8 +1,11 @@
 -- Store calls of a term: those that its task makes itself, and those of the tasks that it starts.
-use Rattle.std.proofs.Common.{◌≡◌, ℕ, ℤ, ◌+◌, ◌*◌, ◌≤◌, ◌==◌, Bool, true, false, cond, List, Option, Some, None, Result, Ok, Err, refl, arith, max}
-use Rattle.rx_rules.proofs.Common.{Fault, GlobalRef, Number, WrongPlace, Thrown, Block, Nothing, Then, Stmt, SetTo, New, Get, Put, Forget, Census, Print, Throw, Async, AtAsync, At, Finish, If, Repeat, Try, bound, Term, Empty, Raise, Run, Turns, Trying, Body, Held, Does, Local, Makes, Gets, Puts, Forgets, Calls, Spawns, Prints, child, Vars, does, items, at, eval, with_number, with_place, target_of, on_ref, ref_in, is_zero, stmt_does, trying_does, body_does, raise, value_of, within}
+use Rattle.std.proofs.Common.{◌≡◌, ℕ, suc, ◌+◌, ◌-◌, ◌*◌, ◌≤◌, List, refl, arith, max}
+use Rattle.std.proofs.Math.Nat.{suc-mul}
+use Rattle.rx_rules.proofs.Common.{PlaceId, Block, Nothing, Then, Stmt, New, Get, Put, Forget, Async, AtAsync, At, Finish, If, Repeat, Try, Term, Empty, Raise, Run, Turns, Trying, Body, Held, Local, Answer, answered, granted, child, Vars, does, items, brought, started_by}
+use Rattle.rx_rules.specs.declared.entries.Act.{Act}
+use Rattle.rx_rules.specs.Plays.{Fits}
 use Rattle.rx_runs.specs.AnyAnswers.{AsksStore}
-use Rattle.rx_parts_bounds.proofs.Weights.{Weighs, load, load_items, front, starts}
+use Rattle.rx_runs.proofs.Weighing.{Weights, Sums, Pays, share, size_items, local_falls, answer_falls, entry_falls}
 
 -- those that a task makes itself
 abbrev mutual
@@ -37,117 +40,144 @@ abbrev mutual
   kids Nothing = 0
   kids (Then first rest) = kids_of first + kids rest
 
-pub own_weighs : Weighs own_of own
-own_weighs = record { nothing = refl; then = λ s b. refl; finish = λ b. omega arith; first = λ e a b. omega arith; other = λ e a b. omega arith; turns = λ n b. omega arith; tries = λ a b d. omega arith }
+-- A term.
 
-pub kids_weighs : Weighs kids_of kids
-kids_weighs = record { nothing = refl; then = λ s b. refl; finish = λ b. omega arith; first = λ e a b. omega arith; other = λ e a b. omega arith; turns = λ n b. omega arith; tries = λ a b d. omega arith }
+abbrev load : (Stmt → ℕ) → (Block → ℕ) → Term → ℕ
+load f g Empty = 0
+load f g (Raise faults) = 0
+load f g (Run stmt x rest) = f stmt + load f g rest
+load f g (Turns body x k times rest) = (times - k) * g body + load f g rest
+load f g (Trying inside dead_only handler x rest) = load f g inside + g handler + load f g rest
+load f g (Body inside rest) = load f g inside + load f g rest
+load f g (Held rest) = load f g rest
 
--- of a term
+abbrev by_calls : (Stmt → ℕ) → (Block → ℕ) → ℕ → Weights
+by_calls f g call = record { statement = f; block = g; handler = g; turns = λ n b. n * g b; body = 0; held = 0; step = 0; call = call; entry = 0 }
+
+load_sums : (f : Stmt → ℕ) (g : Block → ℕ) (call : ℕ) → g Nothing ≡ 0 → ((s : Stmt) (b : Block) → g (Then s b) ≡ f s + g b) → Sums (by_calls f g call) (load f g)
+load_sums f g call none then = record {
+  empty = refl;
+  raised = λ faults. refl;
+  run = λ s x rest. refl;
+  repeating = λ b x k times rest. refl;
+  trying = λ inside dead_only b x rest. refl;
+  finishing = λ inside rest. (let it : load f g inside + load f g rest ≡ load f g inside + 0 + load f g rest = omega arith in it);
+  holding = λ rest. (let it : load f g rest ≡ 0 + load f g rest = omega arith in it);
+  nothing = none;
+  then = then;
+}
+
+free : (n : ℕ) → 0 ≤ n
+free n = omega arith
+
+kept : (n : ℕ) → n + 0 ≤ n
+kept n = omega arith
+
+chosen : (a b : ℕ) → (a + 0 ≤ max a b) × (b + 0 ≤ max a b)
+chosen a b = (omega arith, omega arith)
+
+turned : (n w : ℕ) → w + n * w + 0 ≤ suc n * w
+turned n w = let p : suc n * w ≡ n * w + w = suc-mul n w in omega (arith, p)
+
+-- What a task makes itself.
+
 abbrev pub owns : Term → ℕ
 owns t = load own_of own t
+
+abbrev no_calls : Term → ℕ
+no_calls t = 0
+
+by_own : Sums (by_calls own_of own 1) owns
+by_own = load_sums own_of own 1 refl (λ s b. refl)
+
+one : 1 ≤ 1
+one = omega arith
+
+own_pays : Pays (by_calls own_of own 1) no_calls
+own_pays = record {
+  raises = λ s. free (own_of s);
+  makes = λ name words. one;
+  gets = λ name target index. one;
+  puts = λ target index value. one;
+  forgets = λ target. one;
+  counts = λ name. free 0;
+  prints = λ value. free 0;
+  spawns = λ b x. kept 0;
+  spawns_at = λ place b x. kept 0;
+  calls = λ place b x. (let it : 0 + (0 + 0) ≤ 0 = omega arith in it);
+  opens = λ b. (let it : own b + 0 + 0 ≤ own b = omega arith in it);
+  waits = kept 0;
+  releases = free 0;
+  first = λ test a b. (chosen (own a) (own b)).0;
+  other = λ test a b. (chosen (own a) (own b)).1;
+  repeats = λ times b. kept (times * own b);
+  turns = λ times b. turned times (own b);
+  over = λ times b. free (times * own b);
+  tries = λ b dead_only h. kept (own b + own h);
+  handles = λ b. kept (own b);
+}
+
+pub own_items : (b : Block) (x : List ℕ) → owns (items b x Empty) ≡ own b + 0
+own_items b x = size_items (by_calls own_of own 1) owns by_own b x 0 Empty
+
+pub local_owns : (vars : Vars) (here : ℕ) (t after : Term) (left : Vars) → does vars here t ≡ Local after left → owns after + 0 ≤ owns t
+local_owns vars here t after left is = local_falls (by_calls own_of own 1) owns no_calls by_own own_pays vars here t after left is
+
+pub answer_owns : (vars : Vars) (here : ℕ) (t : Term) (a : Answer) → AsksStore (does vars here t) → owns (answered a t) + 1 ≤ owns t
+answer_owns vars here t a h = answer_falls (by_calls own_of own 1) owns no_calls by_own own_pays vars here t a h
+
+pub entry_owns : (vars : Vars) (here : PlaceId) (t : Term) (act : Act) → Fits here t (does vars here.0 t) act → owns (granted (brought act) t) + share no_calls (child t) (started_by act) + 0 ≤ owns t
+entry_owns vars here t act h = entry_falls (by_calls own_of own 1) owns no_calls by_own own_pays vars here t act h
+
+-- What it gives away to the tasks that it starts.
 
 abbrev pub gives : Term → ℕ
 gives t = load kids_of kids t
 
--- where the store is asked, n is at least one
-abbrev IsPaid : ℕ → Does → Type 0
-IsPaid n (Makes name words) = 1 ≤ n
-IsPaid n (Gets name target index) = 1 ≤ n
-IsPaid n (Puts target index value) = 1 ≤ n
-IsPaid n (Forgets target) = 1 ≤ n
-IsPaid n _ = Unit {0}
+abbrev pub handed : Term → ℕ
+handed t = owns t + gives t
 
-with_number_paid : (n : ℕ) (vars : Vars) (o : Option ℤ) (h : ℤ → Does) → ((z : ℤ) → IsPaid n (h z)) → IsPaid n (with_number vars o h)
-with_number_paid n vars (Some z) h k = k z
-with_number_paid n vars None h k = tt
+by_kids : Sums (by_calls kids_of kids 0) gives
+by_kids = load_sums kids_of kids 0 refl (λ s b. refl)
 
-with_place_paid : (n : ℕ) (vars : Vars) (o : Result ℕ Fault) (h : ℕ → Does) → ((p : ℕ) → IsPaid n (h p)) → IsPaid n (with_place vars o h)
-with_place_paid n vars (Ok p) h k = k p
-with_place_paid n vars (Err fault) h k = tt
+pub kids_items : (b : Block) (x : List ℕ) → gives (items b x Empty) ≡ kids b + 0
+kids_items b x = size_items (by_calls kids_of kids 0) gives by_kids b x 0 Empty
 
-if_paid : (n : ℕ) (b : Bool) (d : Does) (after : Term) (vars : Vars) → IsPaid n d → IsPaid n (cond b d (Local after vars))
-if_paid n true d after vars h = h
-if_paid n false d after vars h = tt
+spawned : (b : Block) (x : List ℕ) → (owns (items b x Empty) + gives (items b x Empty)) + 0 ≤ own b + kids b
+spawned b x = omega (arith, own_items b x, kids_items b x)
 
-on_ref_paid : (n : ℕ) (vars : Vars) (here target : ℕ) (h : GlobalRef → Does) → ((r : GlobalRef) → IsPaid n (h r)) → IsPaid n (on_ref vars here target h)
-on_ref_paid n vars here target h k = if_paid n ((ref_in (value_of vars target)).home.0 == here) (h (ref_in (value_of vars target))) (raise WrongPlace) vars (k (ref_in (value_of vars target)))
+called : (b : Block) (x : List ℕ) → 0 + ((owns (items b x Empty) + gives (items b x Empty)) + 0) ≤ own b + kids b
+called b x = omega (arith, own_items b x, kids_items b x)
 
-stmt_paid : (vars : Vars) (here : ℕ) (stmt : Stmt) (x : List ℕ) (rest : Term) → IsPaid (own_of stmt) (stmt_does vars here stmt x rest)
-stmt_paid vars here (SetTo name value) x rest = with_number_paid 0 vars (eval vars here value) (λ z. Local rest (bound name (Number z) vars)) (λ z. tt)
-stmt_paid vars here (New name words) x rest = omega arith
-stmt_paid vars here (Get name target index) x rest = with_number_paid 1 vars (eval vars here index) (λ k. on_ref vars here target (λ r. Gets name r k)) (λ k. on_ref_paid 1 vars here target (λ r. Gets name r k) (λ r. omega arith))
-stmt_paid vars here (Put target index value) x rest =
-    with_number_paid 1 vars (eval vars here index) (λ k. with_number vars (eval vars here value) (λ z. on_ref vars here target (λ r. Puts r k z)))
-    (λ k. with_number_paid 1 vars (eval vars here value) (λ z. on_ref vars here target (λ r. Puts r k z)) (λ z. on_ref_paid 1 vars here target (λ r. Puts r k z) (λ r. omega arith)))
-stmt_paid vars here (Forget target) x rest = on_ref_paid 1 vars here target Forgets (λ r. omega arith)
-stmt_paid vars here (Census name) x rest = tt
-stmt_paid vars here (Print value) x rest = with_number_paid 0 vars (eval vars here value) Prints (λ z. tt)
-stmt_paid vars here (Throw value) x rest = with_number_paid 0 vars (eval vars here value) (λ z. Local (raise (Thrown z)) vars) (λ z. tt)
-stmt_paid vars here (Async body) x rest = tt
-stmt_paid vars here (AtAsync place body) x rest = with_place_paid 0 vars (target_of (eval vars here place) vars.places) Spawns (λ p. tt)
-stmt_paid vars here (At place body) x rest = with_place_paid 0 vars (target_of (eval vars here place) vars.places) Calls (λ p. tt)
-stmt_paid vars here (Finish body) x rest = tt
-stmt_paid vars here (If test first other) x rest =
-    with_number_paid (own_of (If test first other)) vars (eval vars here test) (λ z. Local (cond (is_zero z) (items other (at x 1) rest) (items first (at x 0) rest)) vars) (λ z. tt)
-stmt_paid vars here (Repeat times body) x rest = tt
-stmt_paid vars here (Try body dead_only handler) x rest = tt
+kids_pay : Pays (by_calls kids_of kids 0) handed
+kids_pay = record {
+  raises = λ s. free (kids_of s);
+  makes = λ name words. free 0;
+  gets = λ name target index. free 0;
+  puts = λ target index value. free 0;
+  forgets = λ target. free 0;
+  counts = λ name. free 0;
+  prints = λ value. free 0;
+  spawns = λ b x. spawned b x;
+  spawns_at = λ place b x. spawned b x;
+  calls = λ place b x. called b x;
+  opens = λ b. (let it : kids b + 0 + 0 ≤ kids b = omega arith in it);
+  waits = kept 0;
+  releases = free 0;
+  first = λ test a b. (chosen (kids a) (kids b)).0;
+  other = λ test a b. (chosen (kids a) (kids b)).1;
+  repeats = λ times b. kept (times * kids b);
+  turns = λ times b. turned times (kids b);
+  over = λ times b. free (times * kids b);
+  tries = λ b dead_only h. kept (kids b + kids h);
+  handles = λ b. kept (kids b);
+}
 
-within_paid : (n : ℕ) (f : Term → Term) (d : Does) → IsPaid n d → IsPaid n (within f d)
-within_paid n f (Local after vars) h = tt
-within_paid n f (Makes name words) h = h
-within_paid n f (Gets name target index) h = h
-within_paid n f (Puts target index value) h = h
-within_paid n f (Forgets target) h = h
-within_paid n f _ h = tt
+pub local_gives : (vars : Vars) (here : ℕ) (t after : Term) (left : Vars) → does vars here t ≡ Local after left → gives after + 0 ≤ gives t
+local_gives vars here t after left is = local_falls (by_calls kids_of kids 0) gives handed by_kids kids_pay vars here t after left is
 
-trying_paid : (n : ℕ) (vars : Vars) (inside : Term) (d : Does) (dead_only : Bool) (handler : Block) (x : List ℕ) (rest : Term) → IsPaid n d → IsPaid n (trying_does vars inside d dead_only handler x rest)
-trying_paid n vars Empty d dead_only handler x rest h = tt
-trying_paid n vars (Raise faults) d dead_only handler x rest h = tt
-trying_paid n vars _ d dead_only handler x rest h = within_paid n (λ t. Trying t dead_only handler x rest) d h
+pub answer_gives : (vars : Vars) (here : ℕ) (t : Term) (a : Answer) → AsksStore (does vars here t) → gives (answered a t) + 0 ≤ gives t
+answer_gives vars here t a h = answer_falls (by_calls kids_of kids 0) gives handed by_kids kids_pay vars here t a h
 
-body_paid : (n : ℕ) (inside : Term) (d : Does) (rest : Term) → IsPaid n d → IsPaid n (body_does inside d rest)
-body_paid n Empty d rest h = tt
-body_paid n (Raise faults) d rest h = tt
-body_paid n _ d rest h = within_paid n (λ t. Body t rest) d h
-
-does_paid : (vars : Vars) (here : ℕ) (t : Term) → IsPaid (front own_of t) (does vars here t)
-does_paid vars here Empty = tt
-does_paid vars here (Raise faults) = tt
-does_paid vars here (Run stmt x rest) = stmt_paid vars here stmt x rest
-does_paid vars here (Turns body x k times rest) = tt
-does_paid vars here (Trying inside dead_only handler x rest) = trying_paid (front own_of inside) vars inside (does vars here inside) dead_only handler x rest (does_paid vars here inside)
-does_paid vars here (Body inside rest) = body_paid (front own_of inside) inside (does vars here inside) rest (does_paid vars here inside)
-does_paid vars here (Held rest) = tt
-
-asks_one : (n : ℕ) (d : Does) → AsksStore d → IsPaid n d → 1 ≤ n
-asks_one n (Makes name words) h k = k
-asks_one n (Gets name target index) h k = k
-asks_one n (Puts target index value) h k = k
-asks_one n (Forgets target) h k = k
-asks_one n _ h k = absurd h
-
--- where the store is asked, the statement at the front is a store call
-pub front_one : (vars : Vars) (here : ℕ) (t : Term) → AsksStore (does vars here t) → 1 ≤ front own_of t
-front_one vars here t h = asks_one (front own_of t) (does vars here t) h (does_paid vars here t)
-
-child_items : (b : Block) (x : List ℕ) → owns (items b x Empty) + gives (items b x Empty) ≤ own b + kids b
-child_items b x =
-    let a : owns (items b x Empty) ≡ own b + 0 = load_items own_of own own_weighs b x 0 Empty in
-    let c : gives (items b x Empty) ≡ kids b + 0 = load_items kids_of kids kids_weighs b x 0 Empty in omega (arith, a, c)
-
-stmt_child : (stmt : Stmt) (x : List ℕ) (rest : Term) → owns (child (Run stmt x rest)) + gives (child (Run stmt x rest)) ≤ starts kids_of (Run stmt x rest)
-stmt_child (Async body) x rest = child_items body x
-stmt_child (AtAsync place body) x rest = child_items body x
-stmt_child (At place body) x rest = child_items body x
-stmt_child _ x rest = omega arith
-
--- a new task has what its starter gives away
-pub child_given : (t : Term) → owns (child t) + gives (child t) ≤ starts kids_of t
-child_given Empty = omega arith
-child_given (Raise faults) = omega arith
-child_given (Run stmt x rest) = stmt_child stmt x rest
-child_given (Turns body x k times rest) = omega arith
-child_given (Trying inside dead_only handler x rest) = child_given inside
-child_given (Body inside rest) = child_given inside
-child_given (Held rest) = omega arith
+pub entry_gives : (vars : Vars) (here : PlaceId) (t : Term) (act : Act) → Fits here t (does vars here.0 t) act → gives (granted (brought act) t) + share handed (child t) (started_by act) + 0 ≤ gives t
+entry_gives vars here t act h = entry_falls (by_calls kids_of kids 0) gives handed by_kids kids_pay vars here t act h

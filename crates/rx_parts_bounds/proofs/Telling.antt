@@ -22,9 +22,10 @@ use Rattle.rx_runs.specs.Segments.{Stand}
 use Rattle.rx_runs.proofs.Sharing.{act_below}
 use Rattle.rx_runs.proofs.Wider.{SoFor}
 use Rattle.rx_parts.specs.Ledger.{LedgerItem, Actor, Away, Present, Over, Walks, stays, local, stores, first_stand, actor_born, actors_born, actor_arrived, actor_granted, actor_ended, IsHostEntry, ItemMakes, hosts, arrives, asks, ends, entries_of}
-use Rattle.rx_parts.proofs.Lists.{one_item, not_none, inside, outside, got_set, got_left}
+use Rattle.rx_parts.proofs.Lists.{one_item, not_none, inside, outside, got_set}
 use Rattle.rx_parts.proofs.Changes.{Change, same, lands, goes_on, leaves, changed, came, came_act, sized}
 use Rattle.rx_parts.proofs.Along.{Numbered, numbered, birth_none, size_next}
+use Rattle.rx_runs.proofs.Fitting.{get_left}
 
 -- The next entry of a task.
 
@@ -389,7 +390,7 @@ step_ask starts n whole T actors left t act batch es a num got there g r (fits, 
     let size : length (slice_set actors t.0 (actor_granted n (told_as (Step t act batch) r.events) act r.stand a)) ≡ length actors = length-set actors t.0 (actor_granted n (told_as (Step t act batch) r.events) act r.stand a) in
     let old : t.0 < length actors = inside actors t.0 a got in
     let stands : slice_get (slice_set actors t.0 (actor_granted n (told_as (Step t act batch) r.events) act r.stand a) ++ actors_born n (told_as (Step t act batch) r.events) act r.stand) t.0 ≡ Some (actor_granted n (told_as (Step t act batch) r.events) act r.stand a) =
-    got_left (slice_set actors t.0 (actor_granted n (told_as (Step t act batch) r.events) act r.stand a)) (actors_born n (told_as (Step t act batch) r.events) act r.stand) t.0 (omega (arith, size, old)) ∙ got_set actors t.0 a (actor_granted n (told_as (Step t act batch) r.events) act r.stand a) got in
+    get_left (slice_set actors t.0 (actor_granted n (told_as (Step t act batch) r.events) act r.stand a)) (actors_born n (told_as (Step t act batch) r.events) act r.stand) t.0 (omega (arith, size, old)) ∙ got_set actors t.0 a (actor_granted n (told_as (Step t act batch) r.events) act r.stand a) got in
     record {
       item = told_as (Step t act batch) r.events;
       is_entry = refl;

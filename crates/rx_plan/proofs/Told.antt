@@ -1,8 +1,8 @@
 -- What the next step tells of what a term does.
-use Rattle.std.proofs.Common.{◌≡◌, ℕ, List, Some, refl}
+use Rattle.std.proofs.Common.{◌≡◌, List, Some, refl}
 use Rattle.rx_rules.proofs.Common.{Fault, Vars, Term, Does, Local, Makes, Gets, Puts, Forgets, Opens, Calls, Spawns, Waits, Releases, Prints, Counts, Done}
 use Rattle.rx_history.specs.declared.step.Next.TheVariants.{Local as LocalStep, Book}
-use Rattle.rx_history.specs.declared.step.Want.TheVariants.{Wait, Census}
+use Rattle.rx_history.specs.declared.step.Want.TheVariants.{Wait}
 use Rattle.rx_history.specs.Next.{next_of, carried}
 
 pub told_local : (d : Does) → next_of d ≡ LocalStep → (left : Term) × (vars : Vars) × (d ≡ Local left vars)
@@ -34,18 +34,3 @@ told_wait Releases e = cc
 told_wait (Prints value) e = cc
 told_wait (Counts name) e = cc
 told_wait (Done faults) e = cc
-
-pub told_census : (d : Does) → next_of d ≡ Book Census → (name : ℕ) × (d ≡ Counts name)
-told_census (Local left vars) e = cc
-told_census (Makes name words) e = cc
-told_census (Gets name target index) e = cc
-told_census (Puts target index value) e = cc
-told_census (Forgets target) e = cc
-told_census Opens e = cc
-told_census (Calls place) e = cc
-told_census (Spawns place) e = cc
-told_census (Waits faults) e = cc
-told_census Releases e = cc
-told_census (Prints value) e = cc
-told_census (Counts name) e = (name, refl)
-told_census (Done faults) e = cc

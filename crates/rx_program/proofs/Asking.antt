@@ -1,6 +1,6 @@
 -- What was asked for, by the command that was read.
-use Rattle.std.proofs.Common.{◌≡◌, ◌≤◌, ℕ, false, List, Some, None, refl, ap, ◌∙◌, subst, Option, IfSome}
-use Rattle.rx_rules.proofs.Common.{Block, Given, Proper}
+use Rattle.std.proofs.Common.{◌≡◌, ℕ, false, List, Some, refl, ap, subst, Option}
+use Rattle.rx_rules.proofs.Common.{Block, Given}
 use Rattle.rx_syntax.specs.Shape.{Shape, Stands}
 use Rattle.rx_history.specs.Setups.{given}
 use Rattle.rx_history.specs.declared.setup.Setup.{Setup}
@@ -11,9 +11,7 @@ use Rattle.rx_words.specs.declared.command.Command.{Command}
 use Rattle.rx_words.specs.declared.command.Command.TheVariants as commands
 use Rattle.rx_words.specs.declared.command.PickWords.{PickWords}
 use Rattle.rx_program.specs.declared.status.Status.{Status}
-use Rattle.rx_program.specs.declared.status.Status.TheVariants.{Done}
-use Rattle.rx_answers.specs.declared.answers.Question.TheVariants as questions
-use Rattle.rx_program.specs.Top.{takes_pair, WasScript, IsGoodScript, IsGoodPair, CanDo, IsTrace, IsLiveText, IsCount, IsAnswered, IsOutcome, work_line}
+use Rattle.rx_program.specs.Top.{takes_pair, WasScript, IsGoodScript, IsGoodPair, CanDo, IsTrace, IsLiveText, IsOutcome}
 use Rattle.rx_program.specs.Inside.Takes.{takes}
 
 -- the source was read as a script, for which a shape stands
@@ -50,27 +48,6 @@ step-done setup picks Span old new shape text status is w made = absurd is
 step-done setup picks (Live U n watch) old new shape text status is w made = absurd is
 step-done setup picks (BadWord k) old new shape text status is w made = absurd is
 
--- what a generated script gives
-pub gen-done : (size : ℕ) (setup : Setup) (seed : Option ℕ) (picks : PickWords) (a : Asked) (old : Option (List ℕ)) (text : List ℕ) (status : Status) → IsAsked (commands.Gen size setup seed) a → source_of picks ≡ source None seed → IsCount size (given setup) (source_of picks) text status → IsOutcome a old old text status
-gen-done size setup seed picks (Step U s) old text status is same made = absurd is
-gen-done size setup seed picks (Gen n U s) old text status is same made =
-    (refl, subst (λ (k : ℕ). IsCount k U (source None s) text status) is.0 (subst (λ (V : Given). IsCount size V (source None s) text status) is.1 (subst (λ (o : Source). IsCount size (given setup) o text status) (same ∙ ap (source None) is.2) made)))
-gen-done size setup seed picks Check old text status is same made = absurd is
-gen-done size setup seed picks Verify old text status is same made = absurd is
-gen-done size setup seed picks Span old text status is same made = absurd is
-gen-done size setup seed picks (Live U n watch) old text status is same made = absurd is
-gen-done size setup seed picks (BadWord k) old text status is same made = absurd is
-
--- what a check gives
-pub check-done : (a : Asked) (old new : Option (List ℕ)) (shape : Shape) (text : List ℕ) (status : Status) → IsAsked commands.Check a → Told old new shape → ((code : Block) → Stands shape code → (text ≡ work_line code) × (status ≡ Done)) → IsOutcome a old new text status
-check-done (Step U s) old new shape text status is w made = absurd is
-check-done (Gen n U s) old new shape text status is w made = absurd is
-check-done Check old new shape text status is w made = let m = made w.0 w.1 in (w.0, w.2, m.0, m.1)
-check-done Verify old new shape text status is w made = absurd is
-check-done Span old new shape text status is w made = absurd is
-check-done (Live U n watch) old new shape text status is w made = absurd is
-check-done (BadWord k) old new shape text status is w made = absurd is
-
 -- bytes that `live` can do
 pub live-can : (live : LiveWords) (a : Asked) (left : Option (List ℕ)) → IsLiveCommand live a → CanDo a left → (bytes : List ℕ) × (left ≡ Some bytes) × IsGoodScript bytes
 live-can live (Step U s) left is can = absurd is
@@ -91,23 +68,6 @@ live-done live Span old new shape text status is w made = absurd is
 live-done live (Live U n watch) old new shape text status is w made = (w.0, w.2, subst (λ (o : Option ℕ). IsLiveText w.0 U o text status) is.5 (subst (λ (V : Given). IsLiveText w.0 V live.watch text status) is.0 (made w.0 w.1)))
 live-done live (BadWord k) old new shape text status is w made = absurd is
 
--- it has a proper setup, and 1 to 8 workers
-pub live-proper : (live : LiveWords) (a : Asked) → IsLiveCommand live a → Proper (given live.setup) × (1 ≤ live.workers) × (live.workers ≤ 8) × IfSome live.watch (λ n. (1 ≤ n) × (n ≤ 1000))
-live-proper live (Step U s) is = absurd is
-live-proper live (Gen n U s) is = absurd is
-live-proper live Check is = absurd is
-live-proper live Verify is = absurd is
-live-proper live Span is = absurd is
-live-proper live (Live U n watch) is = (is.2, is.3, is.4, is.6)
-live-proper live (BadWord k) is = absurd is
-
--- no other words ask for it
-pub live-is-good : (live : LiveWords) (a : Asked) (k : ℕ) → IsLiveCommand live a → a ≡ BadWord k → ⊥
-live-is-good live a k is e = subst (λ (x : Asked). IsLiveCommand live x) e is
-
-pub live-is-no-gen : (live : LiveWords) (a : Asked) (n : ℕ) (U : Given) (s : Option ℕ) → IsLiveCommand live a → a ≡ Gen n U s → ⊥
-live-is-no-gen live a n U s is e = subst (λ (x : Asked). IsLiveCommand live x) e is
-
 -- pairs to which `verify` can answer
 pub verify-can : (a : Asked) (left : Option (List ℕ)) → IsAsked commands.Verify a → CanDo a left → (bytes : List ℕ) × (left ≡ Some bytes) × IsGoodPair bytes
 verify-can (Step U s) left is can = absurd is
@@ -118,16 +78,6 @@ verify-can Span left is can = absurd is
 verify-can (Live U n watch) left is can = absurd is
 verify-can (BadWord k) left is can = absurd is
 
--- what it gives
-pub verify-done : (a : Asked) (old new : Option (List ℕ)) (text : List ℕ) (status : Status) → IsAsked commands.Verify a → IsAnswered questions.Verify old new text status → IsOutcome a old new text status
-verify-done (Step U s) old new text status is made = absurd is
-verify-done (Gen n U s) old new text status is made = absurd is
-verify-done Check old new text status is made = absurd is
-verify-done Verify old new text status is made = made
-verify-done Span old new text status is made = absurd is
-verify-done (Live U n watch) old new text status is made = absurd is
-verify-done (BadWord k) old new text status is made = absurd is
-
 -- pairs to which `span` can answer
 pub span-can : (a : Asked) (left : Option (List ℕ)) → IsAsked commands.Span a → CanDo a left → (bytes : List ℕ) × (left ≡ Some bytes) × IsGoodPair bytes
 span-can (Step U s) left is can = absurd is
@@ -137,16 +87,6 @@ span-can Verify left is can = absurd is
 span-can Span left is can = can
 span-can (Live U n watch) left is can = absurd is
 span-can (BadWord k) left is can = absurd is
-
--- what it gives
-pub span-done : (a : Asked) (old new : Option (List ℕ)) (text : List ℕ) (status : Status) → IsAsked commands.Span a → IsAnswered questions.Span old new text status → IsOutcome a old new text status
-span-done (Step U s) old new text status is made = absurd is
-span-done (Gen n U s) old new text status is made = absurd is
-span-done Check old new text status is made = absurd is
-span-done Verify old new text status is made = absurd is
-span-done Span old new text status is made = made
-span-done (Live U n watch) old new text status is made = absurd is
-span-done (BadWord k) old new text status is made = absurd is
 
 -- what is asked for takes a pair exactly where the command does
 pub asked-takes : (c : Command) (a : Asked) → IsAsked c a → takes_pair a ≡ takes c

@@ -154,12 +154,6 @@ late-goes_on s half i start cs up more late again =
     let below = up.below in
     late-made s (i / 2) _ cs again (omega arith) (up.sums (i / 2 / 2) (omega arith) (omega arith) (λ e. omega (arith, e))) late
 
-pub up-ends : (half i : ℕ) (start cs : List ℕ) → IsUp half i start cs → i ≤ 1 → IsTree half cs
-up-ends half i start cs up last = record {
-  bare = up.bare;
-  sums = λ j from high. up.sums j from high (λ e. omega (arith, e));
-}
-
 -- on the way down to the root, all is added up from the node at i on
 pub record IsDown (half i : ℕ) (start cs : List ℕ) : Type 0 where
   pub bare : IsBare half cs
@@ -170,15 +164,6 @@ pub record IsDown (half i : ℕ) (start cs : List ℕ) : Type 0 where
 
 pub some-half : (half : ℕ) (cs : List ℕ) → IsBare half cs → 0 < half
 some-half half cs bare = let s = bare.small 1 (omega arith) in omega arith
-
-pub down-begins : (half : ℕ) (cs : List ℕ) → IsBare half cs → IsDown half half cs cs
-down-begins half cs bare = record {
-  bare = bare;
-  from = some-half half cs bare;
-  most = omega arith;
-  sums = λ j low high. absurd (omega arith);
-  same = refl;
-}
 
 pub down-goes_on : (half i : ℕ) (start cs : List ℕ) → IsDown half i start cs → 1 < i → IsDown half (i - 1) start (set cs (i - 1) (slice_index cs (2 * (i - 1)) + slice_index cs (2 * (i - 1) + 1)))
 down-goes_on half i start cs down more =
@@ -192,12 +177,6 @@ down-goes_on half i start cs down more =
       sums = λ j from high. sum-next half (i - 1) j cs down.bare low h (λ other. down.sums j (omega (arith, other)) high) (λ e. omega (arith, e)) (λ e. omega (arith, e));
       same = drop-set-lt half cs (i - 1) _ h ∙ down.same;
     }
-
-pub down-ends : (half i : ℕ) (start cs : List ℕ) → IsDown half i start cs → i ≤ 1 → IsTree half cs
-down-ends half i start cs down last = record {
-  bare = down.bare;
-  sums = λ j from high. down.sums j (omega arith) high;
-}
 
 -- what the nodes before i count
 pub front : ℕ → List ℕ → ℕ
@@ -263,15 +242,6 @@ pub record IsNear (h d k i left : ℕ) (cs : List ℕ) : Type 0 where
   pub below : i < 2 * 2 ^ d
   pub within : left < slice_index cs i
   pub before : front i cs + left ≡ front (2 ^ d) cs + k
-
-pub near-begins : (h k : ℕ) (cs : List ℕ) → k < slice_index cs 1 → IsNear h 0 k 1 k cs
-near-begins h k cs within = record {
-  level = omega arith;
-  from = omega arith;
-  below = omega arith;
-  within = within;
-  before = refl;
-}
 
 -- a level below
 pub record IsNext (h d i : ℕ) (cs : List ℕ) : Type 0 where

@@ -9,10 +9,6 @@ use Rattle.rx_rank.specs.Counts.{numbers, leaves, IsTree, IsKept, IsSet}
 use Rattle.rx_rank.proofs.Leaves.{Between, empty, numbers-between, numbers-most, removed_none}
 use Rattle.rx_rank.proofs.Adding.{half-is, root-length}
 
--- there is a tree where there is room
-pub kept_tree : (h : ℕ) (cs : List ℕ) → IsKept h cs → 0 < length cs → IsTree (length cs / 2) cs
-kept_tree h cs kept some = let t = kept.tree some in subst (λ z. IsTree z cs) (sym (half-is (2 ^ h) cs t.bare)) t
-
 pub kept_again : (h : ℕ) (cs new : List ℕ) → IsKept h cs → 0 < length cs → length new ≡ length cs → IsTree (length new / 2) new → IsKept h new
 kept_again h cs new kept some same tree =
     let e : length new / 2 ≡ 2 ^ h = ap (λ z. z / 2) same ∙ half-is (2 ^ h) cs (kept.tree some).bare in
@@ -21,18 +17,12 @@ kept_again h cs new kept some same tree =
       tree = λ _. subst (λ z. IsTree z new) e tree;
     }
 
-pub kept_new : (h : ℕ) (cs : List ℕ) → h < 32 → IsTree (2 ^ h) cs → IsKept h cs
-kept_new h cs below tree = record { height = below; tree = λ _. tree }
-
 pub kept_even : (h : ℕ) (cs : List ℕ) → IsKept h cs → length (leaves cs) ≡ length cs / 2
 kept_even h [] kept = refl
 kept_even h (c ∷ cs) kept =
     let len = (kept.tree (omega arith)).bare.len in
     let l = length-drop (length (c ∷ cs) / 2) (c ∷ cs) in
     omega arith
-
-pub kept_less : (h g n : ℕ) (cs : List ℕ) → IsKept h cs → length cs / 2 < n → n ≤ 2 ^ g → length cs ≤ 2 * 2 ^ g
-kept_less h g n cs kept less most = let e = kept_even h cs kept in let l = length-drop (length cs / 2) cs in omega arith
 
 -- a tree that has no room for some number is less than half as large as one that has
 power-low : (g h : ℕ) → 2 ^ g < 2 ^ h → 2 * 2 ^ g ≤ 2 ^ h

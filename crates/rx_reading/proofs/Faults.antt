@@ -69,10 +69,6 @@ fault-takes places w g e = first (dead_of places w) refl e
     first None was is = second (fault_spelt w) refl is
     first (Some f) was is = dead-takes places w g (was ∙ is)
 
--- the word is plain by its bytes
-pub plain-bytes : (b : ℕ) (w : List ℕ) → (b == 32) ≡ false → (b == 10) ≡ false → Plain w → Plain (b ∷ w)
-plain-bytes b w blank line rest = ((eqb-false b 32 blank, eqb-false b 10 line), rest)
-
 abbrev pub is_plain : List ℕ → Bool
 is_plain [] = true
 is_plain (b ∷ bs) = cond (b == 32) false (cond (b == 10) false (is_plain bs))

@@ -221,15 +221,6 @@ kill-item kill fits =
       reads = (spelling text).exact kill is;
     }
 
--- a word that is read as this kill
-pub kill-is : (w : List ℕ) (o : Option Kill) → IfSome o (IsKillWord w) → ((k : Kill) → IsKillWord w k → o ≡ Some k) → o ≡ kill_of w
-kill-is w o spelled exact = by (spelling w).kill (spelling w).spelled o spelled exact (spelling w).exact
-  where
-    by : (r : Option Kill) → IfSome r (IsKillWord w) → (o : Option Kill) → IfSome o (IsKillWord w) → ((k : Kill) → IsKillWord w k → o ≡ Some k) → ((k : Kill) → IsKillWord w k → r ≡ Some k) → o ≡ r
-    by (Some k) is o spelled exact all = exact k is
-    by None is None spelled exact all = refl
-    by None is (Some k) spelled exact all = absurd (none-some k (all k spelled))
-
 -- numbers that are not 0
 above-zero : (k n : ℕ) → above_zero k ≡ Some n → (k ≡ n) × (1 ≤ n)
 above-zero k n e = by (k == 0) refl e

@@ -17,7 +17,7 @@ use Rattle.rx_trace.specs.Fields.{natural_field, kill_field}
 use Rattle.rx_trace.specs.Text.{trace_text}
 use Rattle.rx_reading.specs.Limits.{FitsEntry, FitsEvent, FitJournals, FitsSetup, IsWithin}
 use Rattle.rx_reading.specs.Inside.Machine.{ReadingState, Untitled, Titled, Sized, Listed, Planned, Entering, Logging, Over, begins_journal, entry_of, event_line_of, state_with_sizes, read_line}
-use Rattle.rx_reading.specs.Reading.{IsText, BeginsText, IsLine, AreLines, IsBadLine, TextsTellThePair, TextsHaveNoBadLine}
+use Rattle.rx_reading.specs.Reading.{IsText, BeginsText, IsLine, AreLines, IsBadLine, TextsTellThePair}
 use Rattle.rx_fields.specs.Words.{Lacks}
 use Rattle.rx_fields.proofs.Cuts.{IsPlain, bytes-same, all-append, all-map}
 use Rattle.rx_reading.proofs.Plans.{sizes_text, sizes-again, kills-line-again}
@@ -171,10 +171,6 @@ r-entering U pre (e ∷ es) so long fit fits r =
 
 r-entries : (U : Given) (es : List Entry) → FitEntries U es → Reached (Entering U es)
 r-entries U es so = r-entering U [] es so.0 so.1 tt so.2 (r-begun U so.0)
-
--- a place that is the first
-first-place : (U : Given) → FitsSetup U → 0 < in_all U
-first-place U so = let some : 1 ≤ U.places = so.0.some in omega arith
 
 r-logs : (U : Given) (es : List Entry) → FitEntries U es → Reached (Logging U es [] [])
 r-logs U es so =
@@ -438,9 +434,6 @@ one-pair U V es fs js ks a b e =
     let same = ends (Over U es js) [] a tt (V, fs, ks, b, append-nil (state_text (Over U es js)) ∙ sym (over-is-text U es js) ∙ e) in
     over-same U V es fs js ks same.0
 
-pub no-bad-line : TextsHaveNoBadLine
-no-bad-line bytes number text bad = bad.no_text text
-
 -- one line more of lines
 lines-more : (n : ℕ) (front line : List ℕ) → AreLines n front → IsLine line → AreLines (suc n) (front ++ line)
 lines-more zero front line are is = (line, [], is, ap (λ f. f ++ line) are ∙ sym (append-nil line), refl)
@@ -452,9 +445,6 @@ pub record HasRead (bytes : List ℕ) (n : ℕ) (s : ReadingState) (rest : List 
   pub so_far : SoFar s
   pub whole : bytes ≡ state_text s ++ rest
   pub lines : AreLines n (state_text s)
-
-pub read-none : (bytes : List ℕ) → HasRead bytes 0 Untitled bytes
-read-none bytes = record { so_far = tt; whole = refl; lines = refl }
 
 line-is : (line : List ℕ) → Lacks 10 line → IsLine (ended line)
 line-is line lacks = (line, lacks, refl)

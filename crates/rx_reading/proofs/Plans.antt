@@ -1,5 +1,5 @@
 -- The lines of the setup.
-use Rattle.std.proofs.Common.{◌≡◌, ◌⊎◌, inl, inr, ℕ, ◌<◌, ◌≤◌, Bool, true, false, cond, ◌&&◌, ◌||◌, not, ◌==◌, List, [], ◌∷◌, ◌++◌, refl, ap, sym, ◌∙◌, subst, arith, append-nil, append_assoc, ◌≢◌, Option, Some, None, codes}
+use Rattle.std.proofs.Common.{◌≡◌, ℕ, ◌<◌, ◌≤◌, Bool, true, false, cond, ◌&&◌, not, ◌==◌, List, [], ◌∷◌, ◌++◌, refl, ap, sym, ◌∙◌, subst, arith, append-nil, append_assoc, ◌≢◌, Option, Some, None, codes}
 use Rattle.std.specs.List.{AllByRecursion, flat_map}
 use Rattle.std.specs.Str.{bytes_eq}
 use Rattle.std.proofs.lemmas.Bool.{and_parts, and_from, not-true, eqb-false, not_from_false, ne_eqb}
@@ -55,10 +55,6 @@ sizes-again places heap a b =
 -- kills in order
 abbrev pub Moments : List Kill → Type 0
 Moments kills = AllByRecursion (λ k. k.moment ≤ 1000000) kills
-
-or-parts : (a b : Bool) → (a || b) ≡ true → (a ≡ true) ⊎ (b ≡ true)
-or-parts true b e = inl refl
-or-parts false b e = inr e
 
 pub after-is : (a b : Kill) → is_before a b ≡ true → ComesAfter a b
 after-is a b e = (before-Decides a b).0 e

@@ -176,9 +176,6 @@ entered U es line after so e =
     subst (λ s. Stepped (Entering U es) line s) m.is
     (record { text = entry-text U es line m.value known.text; so_far = (so.0, long, all-push (FitsEntry (in_all U)) es m.value so.2 known.fits) })
 
-journal-line : ℕ → List ℕ
-journal-line p = codes "journal " ++ natural_text p
-
 begun-text : (U : Given) (es : List Entry) (line : List ℕ) → line ≡ codes "journal " ++ natural_text 0 → state_text (Logging U es [] []) ≡ state_text (Entering U es) ++ ended line
 begun-text U es line is = ap (λ r. entries_text U es ++ r) (append-nil (journal_lines 0 []) ∙ append-nil (ended (codes "journal " ++ natural_text 0))) ∙ ap (λ l. entries_text U es ++ ended l) (sym is)
 

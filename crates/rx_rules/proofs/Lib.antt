@@ -9,3 +9,4 @@ pub mod Deaths
 pub mod Setups
 pub mod Plans
 pub mod Common
+pub mod StepRules

@@ -3,7 +3,7 @@ use Rattle.std.proofs.Common.{◌≡◌, ◌≢◌, ℕ, zero, suc, ◌+◌, ◌
 use Rattle.std.proofs.lemmas.Bool.{or_right}
 use Rattle.std.proofs.lemmas.List.{append-nil}
 use Rattle.std.proofs.lemmas.List.Folds.{list_any-append}
-use Rattle.rx_rules.proofs.Common.{PlaceId, TaskId, Fault, Block, work, Empty, items, granted, child, Tree, AllowedAct, Birth, birth_of, moves_from, travels, started_by, brought, Given, Event, in_all, plan_of, IsDue, rest_of, Player, Game, Turn, start_game, enabled, tree_in, acted, child_of, NoRoot}
+use Rattle.rx_rules.proofs.Common.{PlaceId, TaskId, Fault, Block, work, Empty, items, granted, child, Tree, AllowedAct, Moves, Birth, birth_of, moves_from, travels, started_by, brought, Given, Event, in_all, plan_of, IsDue, rest_of, Player, Game, Turn, start_game, enabled, tree_in, acted, child_of, NoRoot}
 use Rattle.rx_rules.specs.declared.tasks.Where.{Where}
 use Rattle.rx_rules.specs.declared.tasks.Where.TheVariants.{At, Travel}
 use Rattle.rx_rules.specs.declared.tasks.Task.{Task}
@@ -14,8 +14,8 @@ use Rattle.rx_rules.specs.declared.entries.Entry.TheVariants.{Step, Root, Death,
 use Rattle.rx_rules.specs.Picked as picked
 use Rattle.rx_rules.specs.Picked.{Turns}
 use Rattle.rx_rules.proofs.Numbers.{next-tree}
-use Rattle.rx_runs.specs.Costs.{cost}
-use Rattle.rx_runs.specs.Ties.{Moves, is_end, has_end, RowSo}
+use Rattle.rx_runs.specs.Costs.{cost, started_cost}
+use Rattle.rx_runs.specs.Ties.{is_end, has_end, RowSo}
 use Rattle.rx_runs.specs.Games.{GameOk, PlayerSo}
 use Rattle.rx_runs.proofs.Pushes.{birth-push}
 use Rattle.rx_runs.proofs.Pairs.{pairs-get, pairs-length, set_same}
@@ -28,9 +28,9 @@ use Rattle.rx_runs.proofs.Keeping.{picked_row, root_not, turn_keeps}
 use Rattle.rx_runs.proofs.Theorem.{turn_grows}
 use Rattle.rx_runs.proofs.Plans.{plan_few}
 use Rattle.rx_runs.proofs.Opening.{starts_ok}
-use Rattle.rx_runs.proofs.Costs.{cost_items}
+use Rattle.rx_runs.proofs.Weighing.{share}
+use Rattle.rx_runs.proofs.Costs.{cost_items, entry_spends, going_spends}
 use Rattle.rx_runs.specs.Bounds.{TurnsBounded, EntriesBounded}
-use Rattle.rx_runs.proofs.Paying.{brings, goes_cost, fits_cost}
 
 abbrev pub is_away : Birth → Moves → Bool
 is_away b [] = travels b
@@ -98,7 +98,7 @@ owes-push : (es : List Entry) (n : ℕ) (ps : List Player) (p : Player) → owes
 owes-push es n [] p = let a : owed (birth_of es n) (moves_from 0 es n) p ≤ cost p.term + 2 = owed_most (birth_of es n) (moves_from 0 es n) p in omega (arith, a)
 owes-push es n (v ∷ ps) p = let a : owes es (suc n) (ps ++ p ∷ []) ≤ owes es (suc n) ps + (cost p.term + 2) = owes-push es (suc n) ps p in omega (arith, a)
 
-children_owe : (es : List Entry) (ps : List Player) (r : Player) (o : Option TaskId) → owes es 0 (ps ++ (elim o as (λ _. List Player) [ Some c ↦ record { term = child r.term; vars = r.vars; batch = [] } ∷ [] | None ↦ [] ])) ≤ owes es 0 ps + brings (child r.term) o
+children_owe : (es : List Entry) (ps : List Player) (r : Player) (o : Option TaskId) → owes es 0 (ps ++ (elim o as (λ _. List Player) [ Some c ↦ record { term = child r.term; vars = r.vars; batch = [] } ∷ [] | None ↦ [] ])) ≤ owes es 0 ps + share started_cost (child r.term) o
 children_owe es ps r None = let e : owes es 0 (ps ++ []) ≡ owes es 0 ps = ap (owes es 0) (append-nil ps) in omega (arith, e)
 children_owe es ps r (Some c) = owes-push es 0 ps (record { term = child r.term; vars = r.vars; batch = [] })
 
@@ -140,7 +140,7 @@ module _ (code : Block) (U : Given) (G : Game) (ok : GameOk code U G) where
       (subst (λ (i : ℕ). owed (birth_of fs i) (moves_from 0 fs i) q + c ≤ owed (birth_of G.entries i) (moves_from 0 G.entries i) p) (sym z) less)
 
   -- an entry is paid by the task that makes it
-  pays_move : (i : ℕ) (x : Task) (here : PlaceId) (p r : Player) (act : Act) → slice_get (enabled (tree_in U G)) i ≡ Some x → x.place ≡ At here → slice_get G.players x.number.0 ≡ Some p → cost r.term ≤ cost p.term → cost (granted (brought act) r.term) + brings (child r.term) (started_by act) + 1 ≤ cost r.term → AllowedAct (tree_in U G) x.number act → owes (G.entries ++ Step x.number act r.batch ∷ []) 0 (slice_set G.players x.number.0 (acted here r act) ++ child_of r act) + 1 ≤ owes G.entries 0 G.players
+  pays_move : (i : ℕ) (x : Task) (here : PlaceId) (p r : Player) (act : Act) → slice_get (enabled (tree_in U G)) i ≡ Some x → x.place ≡ At here → slice_get G.players x.number.0 ≡ Some p → cost r.term ≤ cost p.term → cost (granted (brought act) r.term) + share started_cost (child r.term) (started_by act) + 1 ≤ cost r.term → AllowedAct (tree_in U G) x.number act → owes (G.entries ++ Step x.number act r.batch ∷ []) 0 (slice_set G.players x.number.0 (acted here r act) ++ child_of r act) + 1 ≤ owes G.entries 0 G.players
   pays_move i x here p r act pick at player walk fit may =
       let t : TaskId = x.number in
       let last : Player = acted here r act in
@@ -150,8 +150,8 @@ module _ (code : Block) (U : Given) (G : Game) (ok : GameOk code U G) where
       let found = picked_row (in_all U) (length ok.starts) G.entries (tree_in U G) i x ok.ties pick in
       let old : cost p.term + 1 ≤ owed b ms p = owed_old b ms p found.1.going in
       let new : owed b (ms ++ (length G.entries, act, r.batch) ∷ []) last ≤ cost (granted (brought act) r.term) + 1 = owed_new b ms (length G.entries, act, r.batch) last in
-      let set : owes fs 0 (slice_set G.players t.0 last) + (brings (child r.term) (started_by act) + 1) ≤ owes G.entries 0 G.players = step_pays t act r.batch p last (brings (child r.term) (started_by act) + 1) (starts_at (length ok.starts) (tree_in U G) t act next_one may) found.0 player (omega (arith, old, new, walk, fit)) in
-      let more : owes fs 0 (slice_set G.players t.0 last ++ child_of r act) ≤ owes fs 0 (slice_set G.players t.0 last) + brings (child r.term) (started_by act) = children_owe fs (slice_set G.players t.0 last) r (started_by act) in
+      let set : owes fs 0 (slice_set G.players t.0 last) + (share started_cost (child r.term) (started_by act) + 1) ≤ owes G.entries 0 G.players = step_pays t act r.batch p last (share started_cost (child r.term) (started_by act) + 1) (starts_at (length ok.starts) (tree_in U G) t act next_one may) found.0 player (omega (arith, old, new, walk, fit)) in
+      let more : owes fs 0 (slice_set G.players t.0 last ++ child_of r act) ≤ owes fs 0 (slice_set G.players t.0 last) + share started_cost (child r.term) (started_by act) = children_owe fs (slice_set G.players t.0 last) r (started_by act) in
       omega (arith, set, more)
 
   pays_end : (i : ℕ) (x : Task) (p : Player) (faults : List Fault) (batch : List (List ℕ)) → slice_get (enabled (tree_in U G)) i ≡ Some x → slice_get G.players x.number.0 ≡ Some p → owes (G.entries ++ Step x.number (End faults) batch ∷ []) 0 G.players + 1 ≤ owes G.entries 0 G.players
@@ -199,7 +199,7 @@ turn_pays code U k used G G' ok (picked.arrives x p takes may) h =
     let size : length (G.entries ++ Step t (Arrive p) [] ∷ []) ≡ suc (length G.entries) = longer G.entries (Step t (Arrive p) []) in
     omega (arith, paid, size)
 turn_pays code U k used G G' ok (picked.moves x here p q S Z j act takes at player store goes fits may) h =
-    let paid : owes G'.entries 0 G'.players + 1 ≤ owes G.entries 0 G.players = pays_move code U G ok (k % length (enabled (tree_in U G))) x here p q act takes.1 at player (goes_cost goes) (fits_cost here q act fits) may in
+    let paid : owes G'.entries 0 G'.players + 1 ≤ owes G.entries 0 G.players = pays_move code U G ok (k % length (enabled (tree_in U G))) x here p q act takes.1 at player (going_spends goes) (entry_spends q.vars here q.term act fits) may in
     let size : length (G.entries ++ Step x.number act q.batch ∷ []) ≡ suc (length G.entries) = longer G.entries (Step x.number act q.batch) in
     omega (arith, paid, size)
 turn_pays code U k used G G' ok (picked.ends x here p q S Z j faults takes at player store goes done may) h =

@@ -1,5 +1,5 @@
 -- Games that turns have made, whatever the picks.
-use Rattle.std.proofs.Common.{◌≡◌, ℕ, suc, ◌+◌, ◌*◌, ◌≤◌, List, [], ◌∷◌, ◌++◌, length, refl, ◌∙◌, sym, arith}
+use Rattle.std.proofs.Common.{◌≡◌, ℕ, suc, ◌+◌, ◌*◌, ◌≤◌, List, [], ◌∷◌, length, refl, ◌∙◌, sym, arith}
 use Rattle.std.proofs.lemmas.List.Sums.{sum_by-cons}
 use Rattle.rx_rules.proofs.Common.{Block, work, Empty, items, Tree, made, births, births_of, fold_from, opening, Given, Proper, plan_of, NoRoot, Game, MadeByTurns, turns, start_game, tree_in}
 use Rattle.rx_rules.specs.declared.entries.Act.TheVariants.{Open, At as Calls, Spawn, Arrive, Wait, Release, End, Print, Census}
@@ -56,20 +56,12 @@ birth-one (Root lost masked thrown) = omega arith
 birth-one (Death d) = omega arith
 birth-one (Join p) = omega arith
 
-births-few : (es : List Entry) → births es ≤ length es
+pub births-few : (es : List Entry) → births es ≤ length es
 births-few [] = omega arith
 births-few (e ∷ es) =
     let here : births (e ∷ es) ≡ births_of e + births es = sum_by-cons births_of e es in
     let one : births_of e ≤ 1 = birth-one e in
     let rest : births es ≤ length es = births-few es in omega (arith, here, one, rest)
-
--- the root stood before a turn after which it stands
-stood : (es : List Entry) (e : Entry) → NoRoot (es ++ e ∷ []) → NoRoot es
-stood [] e h = tt
-stood (Step t act batch ∷ es) e h = stood es e h
-stood (Root lost masked thrown ∷ es) e h = absurd h
-stood (Death d ∷ es) e h = stood es e h
-stood (Join p ∷ es) e h = stood es e h
 
 came : (code : Block) (U : Given) (G : Game) → Proper U → MadeByTurns code U G → NoRoot G.entries → GameOk code U G × TermsFit (tree_in U G) G.players × (total G ≤ total (start_game code U))
 came code U G proper opens h = (starts_ok code U proper, starts_fit code U, omega arith)

@@ -2,7 +2,7 @@
 use Rattle.std.proofs.Common.{◌≡◌, ℕ, suc, ◌+◌, ◌*◌, ◌≤◌, Bool, true, false, cond, not, ◌||◌, ◌==◌, List, [], ◌∷◌, ◌++◌, length, filter, slice_get, Option, Some, None, All, refl, ap, ◌∙◌, sym, subst, arith}
 use Rattle.std.specs.List.{find, list_any}
 use Rattle.std.proofs.lemmas.Bool.{eqb-true, ne_eqb, true≢false, or_from, or_right}
-use Rattle.rx_rules.proofs.Common.{PlaceId, TaskId, ScopeId, Fault, work, Term, Empty, Vars, items, answered, Does, does, granted, child, Tree, is_scope, task_of, on_chain, the_root, without, after_end, made, made_act, Allowed, AllowedAct, births, births_of, AllAllowed, opening, Reached, IsOlder, opens, Event, plan_of, PlanKept, rest_of, Starts, Birth, brought, started_by, birth_in, birth_from, birth_of, travels, moves_from}
+use Rattle.rx_rules.proofs.Common.{PlaceId, TaskId, ScopeId, Fault, work, Term, Empty, Vars, items, answered, granted, child, Tree, is_scope, task_of, on_chain, the_root, without, after_end, made, made_act, Allowed, AllowedAct, births, births_of, AllAllowed, opening, Reached, IsOlder, opens, Event, plan_of, PlanKept, rest_of, Starts, Moves, Birth, brought, started_by, birth_in, birth_from, birth_of, travels, moves_from}
 use Rattle.rx_rules.specs.declared.tasks.Task.{Task}
 use Rattle.rx_rules.specs.declared.tasks.Scope.{Scope}
 use Rattle.rx_rules.specs.declared.entries.Act.{Act}
@@ -16,44 +16,34 @@ use Rattle.rx_tree_laws.proofs.Stay.{any_faulted}
 use Rattle.rx_tree_laws.proofs.Releasing.{on_meets, any_filter}
 use Rattle.rx_tree_laws.proofs.Reached.{sound}
 use Rattle.rx_tree_laws.proofs.Histories.{reached_now, dead-now, none_yet}
-use Rattle.rx_runs.specs.Costs.{cost, Spends}
-use Rattle.rx_runs.specs.Ties.{Moves}
+use Rattle.rx_runs.specs.Costs.{cost, started_cost}
 use Rattle.rx_runs.specs.AnyAnswers.{Works, local, answers, asks, ends, stops, BeginsWork, EachWorks, MadeBounded}
-use Rattle.rx_runs.proofs.Costs.{spends, cost_items}
-use Rattle.rx_runs.proofs.Paying.{asks_cost, store_cost}
-use Rattle.rx_runs.proofs.Wider.{SoFor}
-use Rattle.rx_runs.proofs.Paying as paying
+use Rattle.rx_runs.proofs.Weighing.{share}
+use Rattle.rx_runs.proofs.Costs.{cost_items, local_spends, answer_spends, entry_spends}
+use Rattle.rx_runs.proofs.Spending.{brings_share}
 use Rattle.rx_runs.proofs.Bounding.{one_less}
 use Rattle.rx_runs.proofs.Plans.{plan_few}
 use Rattle.rx_runs.proofs.Sharing.{of_moves, of_tasks, of_entries, brings, range, weight, given, all_hit, born_in_order, given_range, all_below}
 
 -- One task.
 
--- what a start brings: its entries, its arrival and its end
-abbrev toll : Term → ℕ
-toll t = cost t + 2
-
 abbrev fees : Starts → Act → ℕ
-fees starts act = brings (weight toll starts) (started_by act)
+fees starts act = brings (weight started_cost starts) (started_by act)
 
 -- an entry itself, and what it brings
 abbrev due : Starts → Act → ℕ
 due starts act = 1 + fees starts act
 
-brings_toll : (starts : Starts) (t : Term) (vars : Vars) (o : Option TaskId) → SoFor starts t vars o → brings (weight toll starts) o ≡ paying.brings (child t) o
-brings_toll starts t vars None h = refl
-brings_toll starts t vars (Some c) h = ap (λ (o : Option (Term × Vars)). elim o as (λ _. ℕ) [ Some s ↦ toll s.0 | None ↦ 0 ]) h
-
 works_due : {starts : Starts} {here : PlaceId} {n : ℕ} {vars : Vars} {t : Term} {moves : Moves} → Works starts here n vars t moves → of_moves (due starts) moves ≤ cost t + 1
 works_due {here = here} {vars = vars} {t = t} (local {left = left} {after = after} e w) =
-    let less : cost after ≤ cost t = subst (λ (d : Does). Spends t d) e (spends vars here.0 t) in
+    let less : cost after + 0 ≤ cost t = local_spends vars here.0 t after left e in
     omega (arith, less, works_due w)
 works_due {here = here} {vars = vars} {t = t} (answers a h w) =
-    let less : cost (answered a t) ≤ cost t = store_cost t (does vars here.0 t) a (spends vars here.0 t) h in
+    let less : cost (answered a t) + 0 ≤ cost t = answer_spends vars here.0 t a h in
     omega (arith, less, works_due w)
 works_due {starts = starts} {here = here} {vars = vars} {t = t} (asks {act = act} fits so w) =
-    let less : cost (granted (brought act) t) + paying.brings (child t) (started_by act) + 1 ≤ cost t = asks_cost here t (does vars here.0 t) act (spends vars here.0 t) fits in
-    let same : brings (weight toll starts) (started_by act) ≡ paying.brings (child t) (started_by act) = brings_toll starts t vars (started_by act) so in
+    let less : cost (granted (brought act) t) + share started_cost (child t) (started_by act) + 1 ≤ cost t = entry_spends vars here t act fits in
+    let same : brings (weight started_cost starts) (started_by act) ≡ share started_cost (child t) (started_by act) = brings_share started_cost starts t vars (started_by act) so in
     omega (arith, less, same, works_due w)
 works_due (ends e) = omega arith
 works_due stops = omega arith
@@ -80,23 +70,23 @@ one_most : (b : Bool) → one_if b ≤ 1
 one_most true = omega arith
 one_most false = omega arith
 
-each_due : (starts : Starts) (es : List Entry) (k : ℕ) (ss : Starts) (ns : List ℕ) → EachWorks starts es k ss ns → of_tasks (due starts) 0 es k ss ≤ given toll ss
+each_due : (starts : Starts) (es : List Entry) (k : ℕ) (ss : Starts) (ns : List ℕ) → EachWorks starts es k ss ns → of_tasks (due starts) 0 es k ss ≤ given started_cost ss
 each_due starts es k [] [] h = omega arith
 each_due starts es k (s ∷ ss) (n ∷ ns) h =
     let here : of_moves (due starts) (moves_from 0 es k) ≤ cost s.0 + 1 + one_if (travels (birth_of es k)) = begins_due starts (birth_of es k).to (travels (birth_of es k)) n s.1 s.0 (moves_from 0 es k) h.0 in
-    let rest : of_tasks (due starts) 0 es (suc k) ss ≤ given toll ss = each_due starts es (suc k) ss ns h.1 in
+    let rest : of_tasks (due starts) 0 es (suc k) ss ≤ given started_cost ss = each_due starts es (suc k) ss ns h.1 in
     omega (arith, here, rest, one_most (travels (birth_of es k)))
 each_due starts es k (s ∷ ss) [] h = absurd h
 each_due starts es k [] (n ∷ ns) h = absurd h
 
 -- the main task does not travel
-main_due : (starts : Starts) (es : List Entry) (ss : Starts) (ns : List ℕ) → 1 ≤ length ss → travels (birth_of es 0) ≡ false → EachWorks starts es 0 ss ns → of_tasks (due starts) 0 es 0 ss + 1 ≤ given toll ss
+main_due : (starts : Starts) (es : List Entry) (ss : Starts) (ns : List ℕ) → 1 ≤ length ss → travels (birth_of es 0) ≡ false → EachWorks starts es 0 ss ns → of_tasks (due starts) 0 es 0 ss + 1 ≤ given started_cost ss
 main_due starts es [] ns some stay h = absurd (omega arith)
 main_due starts es (s ∷ ss) [] some stay h = absurd h
 main_due starts es (s ∷ ss) (n ∷ ns) some stay h =
     let here : of_moves (due starts) (moves_from 0 es 0) ≤ cost s.0 + 1 + one_if (travels (birth_of es 0)) = begins_due starts (birth_of es 0).to (travels (birth_of es 0)) n s.1 s.0 (moves_from 0 es 0) h.0 in
     let none : one_if (travels (birth_of es 0)) ≡ 0 = ap one_if stay in
-    let rest : of_tasks (due starts) 0 es 1 ss ≤ given toll ss = each_due starts es 1 ss ns h.1 in
+    let rest : of_tasks (due starts) 0 es 1 ss ≤ given started_cost ss = each_due starts es 1 ss ns h.1 in
     omega (arith, here, none, rest)
 
 no_birth : (n : ℕ) (T : Tree) (e : Entry) → 1 ≤ T.next_task → Allowed T e → birth_in n 0 e ≡ None
@@ -229,13 +219,13 @@ made_bounded code U es n proper folds made =
     let size : length starts ≡ 1 + births es = made.all in
     let long : length starts ≡ suc (births es) = omega (arith, size) in
     let stay : travels (birth_of es 0) ≡ false = main_stays 0 (opening U.places) es (omega arith) folds.allowed in
-    let spent : of_tasks (due starts) 0 es 0 starts + 1 ≤ given toll starts = main_due starts es starts made.counts (omega (arith, size)) stay made.each in
+    let spent : of_tasks (due starts) 0 es 0 starts + 1 ≤ given started_cost starts = main_due starts es starts made.counts (omega (arith, size)) stay made.each in
     let hit : of_entries (due starts) es ≤ of_tasks (due starts) 0 es 0 starts = all_hit (due starts) 0 es starts (all_below 0 (opening U.places) es (length starts) (opens U.places folds.some folds.few) none_yet folds.allowed (omega (arith, size))) in
     let kinds : length es + of_entries (fees starts) es ≡ of_entries (due starts) es + planned es + roots es = all_kinds (fees starts) es in
-    let order : of_entries (fees starts) es ≡ range (weight toll starts) 1 (births es) = born_in_order (weight toll starts) 0 (opening U.places) es folds.allowed in
-    let all : given toll starts ≡ range (weight toll starts) 0 (length starts) = given_range toll starts 0 starts (λ i. (let z : 0 + i ≡ i = omega arith in ap (slice_get starts) (sym z))) in
-    let split : range (weight toll starts) 0 (length starts) ≡ weight toll starts 0 + range (weight toll starts) 1 (births es) = ap (range (weight toll starts) 0) long in
-    let main : weight toll starts 0 ≡ cost (items code [] Empty) + 2 = ap (λ (o : Option (Term × Vars)). elim o as (λ _. ℕ) [ Some v ↦ toll v.0 | None ↦ 0 ]) made.main in
+    let order : of_entries (fees starts) es ≡ range (weight started_cost starts) 1 (births es) = born_in_order (weight started_cost starts) 0 (opening U.places) es folds.allowed in
+    let all : given started_cost starts ≡ range (weight started_cost starts) 0 (length starts) = given_range started_cost starts 0 starts (λ i. (let z : 0 + i ≡ i = omega arith in ap (slice_get starts) (sym z))) in
+    let split : range (weight started_cost starts) 0 (length starts) ≡ weight started_cost starts 0 + range (weight started_cost starts) 1 (births es) = ap (range (weight started_cost starts) 0) long in
+    let main : weight started_cost starts 0 ≡ cost (items code [] Empty) + 2 = ap (λ (o : Option (Term × Vars)). elim o as (λ _. ℕ) [ Some v ↦ started_cost v.0 | None ↦ 0 ]) made.main in
     let first : cost (items code [] Empty) ≡ 4 * work code + 0 = cost_items code [] 0 Empty in
     let due_ones : planned es ≤ length (plan_of U) = few_planned 0 (plan_of U) es folds.plan in
     let few : length (plan_of U) + 1 ≤ U.places + 2 * length U.joins = plan_few U proper in

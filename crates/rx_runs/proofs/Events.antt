@@ -4,41 +4,35 @@ use Rattle.std.specs.List.{cons_option}
 use Rattle.std.proofs.lemmas.Bool.{or_right, eq-eqb}
 use Rattle.std.proofs.lemmas.List.{length-append}
 use Rattle.std.proofs.lemmas.List.Folds.{list_any-append}
-use Rattle.rx_rules.proofs.Common.{PlaceId, TaskId, Fault, Block, work, State, Empty, items, answered, Does, does, granted, child, journal_at, moves_from, move_of, brought, started_by, Given, in_all, Proper, Player, Game, RunsWithoutEntry, stays, local, stores, Turn, planned, arrives, moves, root, MadeByTurns, turns, acted, child_of, closed_by, start_game, tree_in}
+use Rattle.rx_rules.proofs.Common.{PlaceId, TaskId, Fault, Block, work, State, Empty, items, answered, does, granted, child, journal_at, Moves, moves_from, move_of, brought, started_by, Given, in_all, Proper, Player, Game, RunsWithoutEntry, stays, local, stores, Turn, planned, arrives, moves, root, MadeByTurns, turns, acted, child_of, closed_by, start_game, tree_in}
 use Rattle.rx_rules.specs.declared.entries.Act.TheVariants.{Arrive, End}
 use Rattle.rx_rules.specs.declared.entries.Entry.{Entry}
 use Rattle.rx_rules.specs.declared.entries.Entry.TheVariants.{Step, Root, Death, Join}
 use Rattle.rx_rules.specs.declared.events.PlaceEvent.{PlaceEvent}
 use Rattle.rx_rules.specs.declared.events.PlaceEvent.TheVariants.{Done as Did, Close}
 use Rattle.rx_base.proofs.Bools.{or-first}
-use Rattle.rx_rules.specs.declared.entries.Act.TheVariants.{Arrive, End}
-use Rattle.rx_rules.specs.declared.entries.Entry.{Entry}
-use Rattle.rx_rules.specs.declared.entries.Entry.TheVariants.{Step, Root, Death, Join}
-use Rattle.rx_rules.specs.declared.events.PlaceEvent.{PlaceEvent}
-use Rattle.rx_rules.specs.declared.events.PlaceEvent.TheVariants.{Done as Did, Close}
 use Rattle.rx_rules.specs.Picked.{ends, opens}
-use Rattle.rx_runs.specs.Steps.{steps, Sinks}
-use Rattle.rx_runs.specs.Ties.{Moves, is_end, has_end}
+use Rattle.rx_runs.specs.Steps.{steps, started_steps}
+use Rattle.rx_runs.specs.Ties.{is_end, has_end}
 use Rattle.rx_runs.specs.Games.{GameOk}
 use Rattle.rx_runs.specs.Events.{FewEvents, GoingTells}
-use Rattle.rx_runs.proofs.Sinking.{sinks, steps_items}
-use Rattle.rx_runs.proofs.Spending.{asks_steps, share}
+use Rattle.rx_runs.proofs.Weighing.{share, tells_store}
+use Rattle.rx_runs.proofs.Sinking.{steps_items, local_sinks, answer_sinks, entry_sinks, going}
 use Rattle.rx_runs.proofs.Pushes.{moves-push}
 use Rattle.rx_runs.proofs.Pairs.{set_same}
 use Rattle.rx_runs.proofs.Journals.{longer}
 use Rattle.rx_runs.proofs.Keeping.{picked_row}
 use Rattle.rx_runs.proofs.Comings.{games_come}
-use Rattle.rx_runs.proofs.Left.{told_sinks, going}
 
 -- Local steps and store calls.
 
 tells : {heap n : ℕ} {t : TaskId} {here : PlaceId} {p q : Player} {S Z : State} {j k : List PlaceEvent} → RunsWithoutEntry heap n t here p S j q Z k → length k + steps q.term ≤ length j + steps p.term
 tells stays = omega arith
-tells {here = here} {p = p} {q = q} {j = j} {k = k} (local {after = after} e g) =
-    let less : steps after + 1 ≤ steps p.term = subst (λ (d : Does). Sinks p.term d) e (sinks p.vars here.0 p.term) in
+tells {here = here} {p = p} {q = q} {j = j} {k = k} (local {after = after} {left = left} e g) =
+    let less : steps after + 1 ≤ steps p.term = local_sinks p.vars here.0 p.term after left e in
     let rest : length k + steps q.term ≤ length j + steps after = tells g in omega (arith, less, rest)
 tells {n = n} {t = t} {here = here} {p = p} {q = q} {j = j} {k = k} (stores cell x a told b may g) =
-    let less : steps (answered a p.term) + 1 ≤ steps p.term = told_sinks p.term (does p.vars here.0 p.term) here cell a (sinks p.vars here.0 p.term) told in
+    let less : steps (answered a p.term) + 1 ≤ steps p.term = answer_sinks p.vars here.0 p.term a (tells_store (does p.vars here.0 p.term) here cell a told) in
     let rest : length k + steps q.term ≤ length (j ++ Did t n cell x ∷ []) + steps (answered a p.term) = tells g in
     let long : length (j ++ Did t n cell x ∷ []) ≡ length j + 1 = length-append j (Did t n cell x ∷ []) in omega (arith, less, rest, long)
 
@@ -103,7 +97,7 @@ credit-young : (es : List Entry) (q : Player) (o : Option TaskId) (m : ℕ) → 
 credit-young es q None m = tt
 credit-young es q (Some c) m = (λ e. omega arith, tt)
 
-sum-young : (q : Player) (o : Option TaskId) → sum_of (young q o) ≤ share (child q.term) o
+sum-young : (q : Player) (o : Option TaskId) → sum_of (young q o) ≤ share started_steps (child q.term) o
 sum-young q None = omega arith
 sum-young q (Some c) = omega arith
 
@@ -179,10 +173,10 @@ turn_spends code n U k {G = G} ok (moves x here p q S Z j act takes where_is pla
     let least : steps p.term ≤ w.0 = w.2 in
     let rest : length j + steps q.term ≤ length (journal_at G.journals here.0) + steps p.term = tells goes in
     let less : steps q.term ≤ steps p.term = going goes in
-    let step : steps (granted (brought act) q.term) + share (child q.term) (started_by act) + 1 ≤ steps q.term = asks_steps here q.term (does q.vars here.0 q.term) act (sinks q.vars here.0 q.term) fits in
+    let step : steps (granted (brought act) q.term) + share started_steps (child q.term) (started_by act) + 1 ≤ steps q.term = entry_sinks q.vars here q.term act fits in
     let set : sum_of (slice_set h.credits x.number.0 (steps (granted (brought act) q.term))) + w.0 ≡ sum_of h.credits + steps (granted (brought act) q.term) = sum-set h.credits x.number.0 w.0 (steps (granted (brought act) q.term)) w.1 in
     let all : sum_of (slice_set h.credits x.number.0 (steps (granted (brought act) q.term)) ++ young q (started_by act)) ≡ sum_of (slice_set h.credits x.number.0 (steps (granted (brought act) q.term))) + sum_of (young q (started_by act)) = sum-more (slice_set h.credits x.number.0 (steps (granted (brought act) q.term))) (young q (started_by act)) in
-    let small : sum_of (young q (started_by act)) ≤ share (child q.term) (started_by act) = sum-young q (started_by act) in
+    let small : sum_of (young q (started_by act)) ≤ share started_steps (child q.term) (started_by act) = sum-young q (started_by act) in
     let more : length (G.entries ++ e ∷ []) ≡ suc (length G.entries) = longer G.entries e in
     record {
       credits = slice_set h.credits x.number.0 (steps (granted (brought act) q.term)) ++ young q (started_by act);

@@ -260,7 +260,7 @@ child_fits T t c y here places q d (Census a0 a1) r low f fits may e found = cc
 
 -- Players.
 
-get_left : {X : Type 0} (xs ys : List X) (i : ℕ) → i < length xs → slice_get (xs ++ ys) i ≡ slice_get xs i
+pub get_left : {X : Type 0} (xs ys : List X) (i : ℕ) → i < length xs → slice_get (xs ++ ys) i ≡ slice_get xs i
 get_left [] ys i low = absurd (omega arith)
 get_left (x ∷ xs) ys zero low = refl
 get_left (x ∷ xs) ys (suc i) low = get_left xs ys i (omega arith)
@@ -276,7 +276,7 @@ get_past [] i p le h = cc
 get_past (x ∷ xs) zero p le h = absurd (omega arith)
 get_past (x ∷ xs) (suc i) p le h = get_past xs i p (omega arith) h
 
-set_other : {X : Type 0} (xs : List X) (k i : ℕ) (a : X) → k ≢ i → slice_get (slice_set xs k a) i ≡ slice_get xs i
+pub set_other : {X : Type 0} (xs : List X) (k i : ℕ) (a : X) → k ≢ i → slice_get (slice_set xs k a) i ≡ slice_get xs i
 set_other [] k i a o = refl
 set_other (x ∷ xs) zero zero a o = absurd (o refl)
 set_other (x ∷ xs) zero (suc i) a o = refl

@@ -13,6 +13,7 @@ use Rattle.rx_rules.specs.declared.events.PlaceEvent.TheVariants.{Done as Did, C
 use Rattle.rx_runs.specs.Games.{Leads, rests, steps, NotAbove, JournalSo}
 use Rattle.rx_rules.proofs.Deaths.{death-push, first_of}
 use Rattle.rx_runs.proofs.Pushes.{birth-push}
+use Rattle.rx_tree_laws.proofs.Histories.{first_none}
 
 pub leads_law : {w : ℕ} {S Z : State} {j : List PlaceEvent} → Leads w S j Z → IsStoreRun w S j
 leads_law rests = tt
@@ -45,16 +46,12 @@ top_up n m (e ∷ j) le h = (let first : stamp_of e ≤ n = h.0 in omega arith, 
 pub longer : (es : List Entry) (e : Entry) → length (es ++ e ∷ []) ≡ suc (length es)
 longer es e = let h : length (es ++ e ∷ []) ≡ length es + 1 = length-append es (e ∷ []) in omega arith
 
-pub none_first : (o : Option ℕ) → first_of o None ≡ o
-none_first None = refl
-none_first (Some k) = refl
-
 -- an entry that is no death of the place
 abbrev pub NoDeathOf : PlaceId → List Entry → Entry → Type 0
 NoDeathOf p es e = death_number (0 + length es) p (e ∷ []) ≡ None
 
 pub death_same : (p : PlaceId) (es : List Entry) (e : Entry) → NoDeathOf p es e → death_number 0 p (es ++ e ∷ []) ≡ death_number 0 p es
-death_same p es e h = death-push 0 p es e ∙ ap (first_of (death_number 0 p es)) h ∙ none_first (death_number 0 p es)
+death_same p es e h = death-push 0 p es e ∙ ap (first_of (death_number 0 p es)) h ∙ first_none (death_number 0 p es)
 
 pub other_death : (p d : PlaceId) (es : List Entry) → d.0 ≢ p.0 → NoDeathOf p es (Death d)
 other_death p d es o = rw (ne_eqb d.0 p.0 o)

@@ -1,5 +1,5 @@
 -- Each turn keeps what holds of games.
-use Rattle.rx_rules.proofs.Common.{Vars, no_vars, PlaceId, PlaceSet, TaskId, Fault, Block, Term, Empty, items, Does, Local, Makes, Gets, Puts, Forgets, Opens, Calls as Asks, Spawns, Waits, Releases, Prints, Counts, Done, does, child, birth_in, Tree, quiet, inner, Allowed, AllowedAct, made_act, births, births_of, opening, Birth, birth_of, moves_from, journal_at, cell_of, started_by, StartsSo, State, Given, in_all, Event, plan_of, AtHome, NoneDue, IsDue, rest_of, death_number, Player, Game, Turn, enabled, is_enabled, tree_in, with_entry, closed_by, child_of, NoRoot}
+use Rattle.rx_rules.proofs.Common.{Vars, no_vars, PlaceId, PlaceSet, TaskId, Fault, Block, Term, Empty, items, Does, Local, Makes, Gets, Puts, Forgets, Opens, Calls as Asks, Spawns, Waits, Releases, Prints, Counts, Done, does, child, birth_in, Tree, quiet, inner, Allowed, AllowedAct, made_act, births, births_of, opening, Moves, Birth, birth_of, moves_from, journal_at, cell_of, started_by, StartsSo, State, Given, in_all, Event, plan_of, AtHome, NoneDue, IsDue, rest_of, death_number, Player, Game, Turn, enabled, is_enabled, tree_in, with_entry, closed_by, child_of, NoRoot}
 use Rattle.std.proofs.Common.{◌≡◌, ◌≢◌, ℕ, zero, suc, ◌+◌, ◌-◌, ◌%◌, ◌<◌, ◌≤◌, Bool, true, false, not, ◌&&◌, ◌||◌, List, [], ◌∷◌, ◌++◌, length, filter, reverse, get_or, slice_get, slice_set, Option, Some, None, is_none, refl, ap, ◌∙◌, sym, subst, arith, length-set}
 use Rattle.std.specs.List.{filter_map}
 use Rattle.std.proofs.lemmas.Bool.{eq-eqb, and_parts, or_right}
@@ -22,7 +22,7 @@ use Rattle.rx_rules.specs.Plays.{Fits}
 use Rattle.rx_rules.specs.Picked as picked
 use Rattle.rx_runs.proofs.Append.{allowed-push}
 use Rattle.rx_runs.specs.Segments.{plan_left}
-use Rattle.rx_runs.specs.Ties.{Moves, is_end, has_end, RowSo, Ties, MayBe, MayCome}
+use Rattle.rx_runs.specs.Ties.{is_end, has_end, RowSo, Ties, MayBe, MayCome}
 use Rattle.rx_rules.proofs.Inverting.{asks_no_end}
 use Rattle.rx_rules.proofs.Append.{tree-push, act-places}
 use Rattle.rx_rules.proofs.Numbers.{next-tree}

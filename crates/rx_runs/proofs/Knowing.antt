@@ -1,13 +1,14 @@
 -- No task knows of more places than there are.
-use Rattle.std.proofs.Common.{◌≡◌, ℕ, zero, suc, ℤ, ◌≤◌, ◌==◌, Bool, true, false, cond, List, [], ◌∷◌, ◌++◌, length, Option, Some, None, Result, Ok, Err, slice_get, slice_set, refl, ap, ◌∙◌, sym, subst, arith}
-use Rattle.rx_rules.proofs.Common.{PlaceId, TaskId, Fault, Thrown, WrongPlace, Number, Block, Stmt, SetTo, New, Get, Put, Forget, Census, Print, Throw, Async, AtAsync, At, Finish, If, Repeat, Try, Vars, Term, Empty, Run, Raise, Turns, Trying, Body, Held, items, at, Answer, Gives, Fine, Fails, vars_after, Does, Local, Makes, Gets, Puts, Forgets, Opens, Calls, Spawns, Waits, Releases, Prints, Counts, Done, raise, bound, value_of, ref_in, eval, target_of, is_zero, with_number, with_place, stmt_does, within, trying_does, body_does, does, child, Tree, AllowedAct, made, made_act, tree_of, started_by, vars_told, journal_at, State, Given, Player, Game, RunsWithoutEntry, stays, local, stores, Turn, planned, arrives, moves, root, MadeByTurns, turns, tree_in, acted, child_of}
+use Rattle.std.proofs.Common.{◌≡◌, ℕ, zero, suc, ◌≤◌, Bool, List, [], ◌∷◌, ◌++◌, length, Option, Some, None, slice_get, slice_set, refl, ap, ◌∙◌, sym, subst, arith}
+use Rattle.rx_rules.proofs.Common.{PlaceId, TaskId, Block, Vars, Term, Answer, Gives, Fine, Fails, vars_after, Does, Local, Counts, does, child, Tree, AllowedAct, made, made_act, tree_of, started_by, vars_told, journal_at, State, Given, Player, Game, RunsWithoutEntry, stays, local, stores, Turn, planned, arrives, moves, root, MadeByTurns, turns, tree_in, acted, child_of}
 use Rattle.rx_rules.specs.declared.entries.Act.{Act}
-use Rattle.rx_rules.specs.declared.entries.Act.TheVariants.{Open, At as Asks, Spawn, Arrive, Wait, Release, End, Print as Shows, Census as Told}
+use Rattle.rx_rules.specs.declared.entries.Act.TheVariants.{Arrive, End, Census as Told}
 use Rattle.rx_rules.specs.declared.entries.Entry.{Entry}
 use Rattle.rx_rules.specs.declared.entries.Entry.TheVariants.{Step, Root, Death, Join}
 use Rattle.rx_rules.specs.declared.events.PlaceEvent.{PlaceEvent}
 use Rattle.rx_rules.specs.Picked.{ends, opens}
 use Rattle.rx_rules.proofs.Append.{act-places, tree-push}
+use Rattle.rx_rules.proofs.StepRules.{StepRule, raises, sets, takes_first, takes_other, repeats, tries, turns_over, turns_on, try_over, caught, uncaught, in_try, asks_in_try, in_body, asks_in_body, rule_of}
 use Rattle.rx_runs.specs.Knowing.{ComesKnowing, GoesKnowing, LocalKnowing, TurnKnowing}
 
 -- Local steps.
@@ -15,101 +16,28 @@ use Rattle.rx_runs.specs.Knowing.{ComesKnowing, GoesKnowing, LocalKnowing, TurnK
 -- a local step leaves what is known
 abbrev Keeps : Vars → Does → Type 0
 Keeps vars (Local left kept) = kept.places ≡ vars.places
-Keeps vars (Makes name words) = Unit {0}
-Keeps vars (Gets name target index) = Unit {0}
-Keeps vars (Puts target index value) = Unit {0}
-Keeps vars (Forgets target) = Unit {0}
-Keeps vars Opens = Unit {0}
-Keeps vars (Calls place) = Unit {0}
-Keeps vars (Spawns place) = Unit {0}
-Keeps vars (Waits faults) = Unit {0}
-Keeps vars Releases = Unit {0}
-Keeps vars (Prints value) = Unit {0}
-Keeps vars (Counts name) = Unit {0}
-Keeps vars (Done faults) = Unit {0}
+Keeps vars _ = Unit {0}
 
-on-number : (vars : Vars) (o : Option ℤ) (f : ℤ → Does) → ((z : ℤ) → Keeps vars (f z)) → Keeps vars (with_number vars o f)
-on-number vars None f h = refl
-on-number vars (Some z) f h = h z
-
-on-place : (vars : Vars) (o : Result ℕ Fault) (f : ℕ → Does) → ((z : ℕ) → Keeps vars (f z)) → Keeps vars (with_place vars o f)
-on-place vars (Err fault) f h = refl
-on-place vars (Ok z) f h = h z
-
-on-test : (vars : Vars) (b : Bool) (d e : Does) → Keeps vars d → Keeps vars e → Keeps vars (cond b d e)
-on-test vars true d e h k = h
-on-test vars false d e h k = k
-
-of_stmt : (vars : Vars) (here : ℕ) (stmt : Stmt) (x : List ℕ) (rest : Term) → Keeps vars (stmt_does vars here stmt x rest)
-of_stmt vars here (SetTo name value) x rest = on-number vars (eval vars here value) (λ z. Local rest (bound name (Number z) vars)) (λ z. refl)
-of_stmt vars here (New name words) x rest = tt
-of_stmt vars here (Get name target index) x rest =
-    let r = ref_in (value_of vars target) in
-    on-number vars (eval vars here index) (λ k. cond (r.home.0 == here) (Gets name r k) (Local (raise WrongPlace) vars))
-    (λ k. on-test vars (r.home.0 == here) (Gets name r k) (Local (raise WrongPlace) vars) tt refl)
-of_stmt vars here (Put target index value) x rest =
-    let r = ref_in (value_of vars target) in
-    on-number vars (eval vars here index) (λ k. with_number vars (eval vars here value) (λ z. cond (r.home.0 == here) (Puts r k z) (Local (raise WrongPlace) vars)))
-    (λ k. on-number vars (eval vars here value) (λ z. cond (r.home.0 == here) (Puts r k z) (Local (raise WrongPlace) vars))
-    (λ z. on-test vars (r.home.0 == here) (Puts r k z) (Local (raise WrongPlace) vars) tt refl))
-of_stmt vars here (Forget target) x rest =
-    let r = ref_in (value_of vars target) in on-test vars (r.home.0 == here) (Forgets r) (Local (raise WrongPlace) vars) tt refl
-of_stmt vars here (Census name) x rest = tt
-of_stmt vars here (Print value) x rest = on-number vars (eval vars here value) Prints (λ z. tt)
-of_stmt vars here (Throw value) x rest = on-number vars (eval vars here value) (λ z. Local (raise (Thrown z)) vars) (λ z. refl)
-of_stmt vars here (Async body) x rest = tt
-of_stmt vars here (AtAsync place body) x rest = on-place vars (target_of (eval vars here place) vars.places) Spawns (λ p. tt)
-of_stmt vars here (At place body) x rest = on-place vars (target_of (eval vars here place) vars.places) Calls (λ p. tt)
-of_stmt vars here (Finish body) x rest = tt
-of_stmt vars here (If test first other) x rest =
-    on-number vars (eval vars here test) (λ z. Local (cond (is_zero z) (items other (at x 1) rest) (items first (at x 0) rest)) vars) (λ z. refl)
-of_stmt vars here (Repeat times body) x rest = refl
-of_stmt vars here (Try body dead_only handler) x rest = refl
-
-in-context : (vars : Vars) (f : Term → Term) (d : Does) → Keeps vars d → Keeps vars (within f d)
-in-context vars f (Local left kept) h = h
-in-context vars f (Makes name words) h = tt
-in-context vars f (Gets name target index) h = tt
-in-context vars f (Puts target index value) h = tt
-in-context vars f (Forgets target) h = tt
-in-context vars f Opens h = tt
-in-context vars f (Calls place) h = tt
-in-context vars f (Spawns place) h = tt
-in-context vars f (Waits faults) h = tt
-in-context vars f Releases h = tt
-in-context vars f (Prints value) h = tt
-in-context vars f (Counts name) h = tt
-in-context vars f (Done faults) h = tt
-
-of_try : (vars : Vars) (inside : Term) (d : Does) (o : Bool) (b : Block) (x : List ℕ) (rest : Term) → Keeps vars d → Keeps vars (trying_does vars inside d o b x rest)
-of_try vars Empty d o b x rest h = refl
-of_try vars (Raise fs) d o b x rest h = refl
-of_try vars (Run c y m) d o b x rest h = in-context vars (λ t. Trying t o b x rest) d h
-of_try vars (Turns c y k n m) d o b x rest h = in-context vars (λ t. Trying t o b x rest) d h
-of_try vars (Trying u p c y m) d o b x rest h = in-context vars (λ t. Trying t o b x rest) d h
-of_try vars (Body u m) d o b x rest h = in-context vars (λ t. Trying t o b x rest) d h
-of_try vars (Held m) d o b x rest h = in-context vars (λ t. Trying t o b x rest) d h
-
-of_body : (vars : Vars) (inside : Term) (d : Does) (rest : Term) → Keeps vars d → Keeps vars (body_does inside d rest)
-of_body vars Empty d rest h = tt
-of_body vars (Raise fs) d rest h = tt
-of_body vars (Run c y m) d rest h = in-context vars (λ t. Body t rest) d h
-of_body vars (Turns c y k n m) d rest h = in-context vars (λ t. Body t rest) d h
-of_body vars (Trying u p c y m) d rest h = in-context vars (λ t. Body t rest) d h
-of_body vars (Body u m) d rest h = in-context vars (λ t. Body t rest) d h
-of_body vars (Held m) d rest h = in-context vars (λ t. Body t rest) d h
-
-keeps : (vars : Vars) (here : ℕ) (t : Term) → Keeps vars (does vars here t)
-keeps vars here Empty = tt
-keeps vars here (Run stmt x rest) = of_stmt vars here stmt x rest
-keeps vars here (Raise faults) = tt
-keeps vars here (Turns body x k times rest) = refl
-keeps vars here (Trying inside o b x rest) = of_try vars inside (does vars here inside) o b x rest (keeps vars here inside)
-keeps vars here (Body inside rest) = of_body vars inside (does vars here inside) rest (keeps vars here inside)
-keeps vars here (Held rest) = tt
+keeps_by : {vars : Vars} {here : ℕ} {t : Term} {d : Does} → StepRule vars here t d → Keeps vars d
+keeps_by (raises fault) = refl
+keeps_by (sets z) = refl
+keeps_by takes_first = refl
+keeps_by takes_other = refl
+keeps_by repeats = refl
+keeps_by tries = refl
+keeps_by turns_over = refl
+keeps_by (turns_on left) = refl
+keeps_by try_over = refl
+keeps_by caught = refl
+keeps_by uncaught = refl
+keeps_by (in_try s) = keeps_by s
+keeps_by (asks_in_try g a s) = keeps_by s
+keeps_by (in_body s) = keeps_by s
+keeps_by (asks_in_body g a s) = keeps_by s
+keeps_by _ = tt
 
 pub local_knows : LocalKnowing
-local_knows vars left here t after e = subst (λ (d : Does). Keeps vars d) e (keeps vars here t)
+local_knows vars left here t after e = subst (λ (d : Does). Keeps vars d) e (keeps_by (rule_of vars here t))
 
 -- Answers, walks and acts.
 
@@ -135,27 +63,8 @@ same_told : (T : Tree) (vars : Vars) → vars.places ≤ T.places → Tells T va
 same_told T vars le = record { less = omega arith; there = le }
 
 act_tells : (T : Tree) (t : TaskId) (vars : Vars) (d : Does) (act : Act) → vars.places ≤ T.places → AllowedAct T t act → Tells T vars (vars_told d act vars)
-act_tells T t vars (Local left kept) act le may = same_told T vars le
-act_tells T t vars (Makes name words) act le may = same_told T vars le
-act_tells T t vars (Gets name target index) act le may = same_told T vars le
-act_tells T t vars (Puts target index value) act le may = same_told T vars le
-act_tells T t vars (Forgets target) act le may = same_told T vars le
-act_tells T t vars Opens act le may = same_told T vars le
-act_tells T t vars (Calls place) act le may = same_told T vars le
-act_tells T t vars (Spawns place) act le may = same_told T vars le
-act_tells T t vars (Waits faults) act le may = same_told T vars le
-act_tells T t vars Releases act le may = same_told T vars le
-act_tells T t vars (Prints value) act le may = same_told T vars le
-act_tells T t vars (Counts name) (Open s r x) le may = same_told T vars le
-act_tells T t vars (Counts name) (Asks from to s r c x) le may = same_told T vars le
-act_tells T t vars (Counts name) (Spawn c s from to x) le may = same_told T vars le
-act_tells T t vars (Counts name) (Arrive p) le may = same_told T vars le
-act_tells T t vars (Counts name) (Wait s thrown) le may = same_told T vars le
-act_tells T t vars (Counts name) (Release s lost masked thrown) le may = same_told T vars le
-act_tells T t vars (Counts name) (End thrown) le may = same_told T vars le
-act_tells T t vars (Counts name) (Shows value x) le may = same_told T vars le
 act_tells T t vars (Counts name) (Told places x) le may = let is : places ≡ T.places = may.asks.1 in record { less = omega arith; there = omega arith }
-act_tells T t vars (Done faults) act le may = same_told T vars le
+act_tells T t vars _ act le may = same_told T vars le
 
 -- Players.
 
@@ -222,7 +131,7 @@ grows-get (a ∷ ps) (b ∷ qs) (suc i) p q h e f = grows-get ps qs i p q h.1 e 
 -- Turns.
 
 -- no entry takes a place away
-made_grows : (n : ℕ) (T : Tree) (e : Entry) → T.places ≤ (made n T e).places
+pub made_grows : (n : ℕ) (T : Tree) (e : Entry) → T.places ≤ (made n T e).places
 made_grows n T (Step t act batch) = let same : (made_act T t act).places ≡ T.places = act-places T t act in omega arith
 made_grows n T (Root lost masked thrown) = omega arith
 made_grows n T (Death d) = omega arith

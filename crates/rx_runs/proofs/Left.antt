@@ -1,40 +1,11 @@
 -- How many steps the terms of a game that turns have made have still to make.
 use Rattle.std.proofs.Common.{◌≡◌, ℕ, zero, suc, ◌+◌, ◌*◌, ◌≤◌, Bool, List, [], ◌∷◌, ◌++◌, Option, Some, None, slice_get, slice_set, subst, arith}
-use Rattle.rx_rules.proofs.Common.{PlaceId, TaskId, Block, work, State, Term, Empty, items, Answer, answered, Does, Local, Makes, Gets, Puts, Forgets, Opens, Calls as Asks, Spawns, Waits, Releases, Prints, Counts, Done, does, granted, child, Tells, brought, started_by, Given, Player, Game, RunsWithoutEntry, stays, local, stores, Turn, planned, arrives, moves, root, MadeByTurns, turns, acted, child_of}
-use Rattle.rx_rules.specs.declared.events.Cell.{Cell}
-use Rattle.rx_rules.specs.declared.events.PlaceEvent.{PlaceEvent}
+use Rattle.rx_rules.proofs.Common.{TaskId, Block, work, Empty, items, granted, child, brought, started_by, Given, Player, Game, Turn, planned, arrives, moves, root, MadeByTurns, turns, acted, child_of}
 use Rattle.rx_rules.specs.Picked.{ends, opens}
-use Rattle.rx_runs.specs.Steps.{steps, Sinks}
+use Rattle.rx_runs.specs.Steps.{steps, started_steps}
 use Rattle.rx_runs.specs.Left.{FewLeft, GoingSinks}
-use Rattle.rx_runs.proofs.Sinking.{sinks, steps_items}
-use Rattle.rx_runs.proofs.Spending.{asks_steps, share}
-
--- Local steps and store calls.
-
--- what the store answers leaves fewer steps
-pub told_sinks : (t : Term) (d : Does) (here : PlaceId) (cell : Cell) (a : Answer) → Sinks t d → Tells d here cell a → steps (answered a t) + 1 ≤ steps t
-told_sinks t (Local u v) here cell a s h = absurd h
-told_sinks t (Makes u v) here cell a s h = s a
-told_sinks t (Gets u v w) here cell a s h = s a
-told_sinks t (Puts u v w) here cell a s h = s a
-told_sinks t (Forgets u) here cell a s h = s a
-told_sinks t Opens here cell a s h = absurd h
-told_sinks t (Asks u) here cell a s h = absurd h
-told_sinks t (Spawns u) here cell a s h = absurd h
-told_sinks t (Waits u) here cell a s h = absurd h
-told_sinks t Releases here cell a s h = absurd h
-told_sinks t (Prints u) here cell a s h = absurd h
-told_sinks t (Counts name) here cell a s h = absurd h
-told_sinks t (Done u) here cell a s h = absurd h
-
-pub going : {heap n : ℕ} {t : TaskId} {here : PlaceId} {p q : Player} {S Z : State} {j k : List PlaceEvent} → RunsWithoutEntry heap n t here p S j q Z k → steps q.term ≤ steps p.term
-going stays = omega arith
-going {here = here} {p = p} {q = q} (local {after = after} e g) =
-    let less : steps after + 1 ≤ steps p.term = subst (λ (d : Does). Sinks p.term d) e (sinks p.vars here.0 p.term) in
-    let rest : steps q.term ≤ steps after = going g in omega (arith, less, rest)
-going {here = here} {p = p} {q = q} (stores cell x a told b may g) =
-    let less : steps (answered a p.term) + 1 ≤ steps p.term = told_sinks p.term (does p.vars here.0 p.term) here cell a (sinks p.vars here.0 p.term) told in
-    let rest : steps q.term ≤ steps (answered a p.term) = going g in omega (arith, less, rest)
+use Rattle.rx_runs.proofs.Weighing.{share}
+use Rattle.rx_runs.proofs.Sinking.{steps_items, entry_sinks, going}
 
 pub going_sinks : GoingSinks
 going_sinks heap n t here p q S Z j k g = going g
@@ -60,7 +31,7 @@ few-more : (n : ℕ) (ps qs : List Player) → Few n ps → Few n qs → Few n (
 few-more n [] qs h k = k
 few-more n (p ∷ ps) qs h k = (h.0, few-more n ps qs h.1 k)
 
-few-child : (n : ℕ) (q : Player) (o : Option TaskId) → share (child q.term) o ≤ n → Few n (elim o as (λ _. List Player) [ Some c ↦ record { term = child q.term; vars = q.vars; batch = [] } ∷ [] | None ↦ [] ])
+few-child : (n : ℕ) (q : Player) (o : Option TaskId) → share started_steps (child q.term) o ≤ n → Few n (elim o as (λ _. List Player) [ Some c ↦ record { term = child q.term; vars = q.vars; batch = [] } ∷ [] | None ↦ [] ])
 few-child n q None h = tt
 few-child n q (Some c) h = (let le : steps (child q.term) + 1 ≤ n = h in omega (arith, le), tt)
 
@@ -70,7 +41,7 @@ turn_few n U k (arrives x p takes may) h = h
 turn_few n U k {G = G} (moves x here p q S Z j act takes where_is player store goes fits may) h =
     let first : steps p.term ≤ n = few-get n G.players x.number.0 p h player in
     let rest : steps q.term ≤ steps p.term = going goes in
-    let step : steps (granted (brought act) q.term) + share (child q.term) (started_by act) + 1 ≤ steps q.term = asks_steps here q.term (does q.vars here.0 q.term) act (sinks q.vars here.0 q.term) fits in
+    let step : steps (granted (brought act) q.term) + share started_steps (child q.term) (started_by act) + 1 ≤ steps q.term = entry_sinks q.vars here q.term act fits in
     few-more n (slice_set G.players x.number.0 (acted here q act)) (child_of q act)
     (few-set n G.players x.number.0 (acted here q act) h (omega (arith, first, rest, step)))
     (few-child n q (started_by act) (omega (arith, first, rest, step)))

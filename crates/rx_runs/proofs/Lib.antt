@@ -6,7 +6,7 @@ pub mod Rows
 pub mod Tying
 pub mod Players
 pub mod Keeping
-pub mod Paying
+pub mod Weighing
 pub mod Bounding
 pub mod Journals
 pub mod Pushes

@@ -1,14 +1,13 @@
 -- What a term plays it makes in so many steps.
 use Rattle.std.proofs.Common.{ℕ, suc, Bool, true, false, List, [], ◌∷◌, refl}
 use Rattle.std.specs.List.{filter_map}
-use Rattle.rx_rules.proofs.Common.{PlaceId, Term, Vars, does, Starts, Plays, BeginsWithArrival, EachPlays, Tells, birth_of, travels, cell_of, journal_at, moves_from}
+use Rattle.rx_rules.proofs.Common.{PlaceId, Term, Vars, does, Starts, Moves, Plays, BeginsWithArrival, EachPlays, Tells, birth_of, travels, cell_of, journal_at, moves_from}
 use Rattle.rx_rules.specs.declared.entries.Act.TheVariants.{Open, At as Calls, Spawn, Arrive, Wait, Release, End, Print, Census}
 use Rattle.rx_rules.specs.declared.entries.Entry.{Entry}
 use Rattle.rx_rules.specs.declared.events.Cell.{Cell}
 use Rattle.rx_rules.specs.declared.events.PlaceEvent.{PlaceEvent}
 use Rattle.rx_rules.specs.Plays as rules
-use Rattle.rx_runs.specs.Ties.{Moves}
-use Rattle.rx_runs.proofs.Paying.{tells_store}
+use Rattle.rx_runs.proofs.Weighing.{tells_store}
 use Rattle.rx_runs.specs.AnyAnswers.{Works, local, answers, asks, ends, stops, BeginsWork, EachWorks, sum_of, RunIsMade}
 
 pub plays_work : {starts : Starts} {here : PlaceId} {low : ℕ} {vars : Vars} {t : Term} {batch : List (List ℕ)} {cells : List (ℕ × Cell × List ℕ)} {moves : Moves} → Plays starts here low vars t batch cells moves → (n : ℕ) × Works starts here n vars t moves

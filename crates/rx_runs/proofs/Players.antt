@@ -1,5 +1,5 @@
 -- Each task plays, after a turn.
-use Rattle.rx_rules.proofs.Common.{Vars, PlaceId, TaskId, Fault, Term, Done, does, granted, Birth, Plays, StartsSo, birth_of, moves_from, journal_at, cell_of, travels, brought, vars_told, State, Player}
+use Rattle.rx_rules.proofs.Common.{Vars, PlaceId, TaskId, Fault, Term, Done, does, granted, Moves, Birth, Plays, StartsSo, birth_of, moves_from, journal_at, cell_of, travels, brought, vars_told, State, Player}
 use Rattle.std.proofs.Common.{◌≡◌, ℕ, suc, ◌<◌, ◌≤◌, Bool, true, false, ◌==◌, List, [], ◌∷◌, ◌++◌, length, slice_set, refl, ap, ◌∙◌, sym, subst, arith, inl, inr}
 use Rattle.std.specs.List.{filter_map}
 use Rattle.std.proofs.lemmas.Bool.{eqb-true, eq-eqb, true≢false}
@@ -12,7 +12,7 @@ use Rattle.rx_rules.specs.declared.entries.Entry.{Entry}
 use Rattle.rx_rules.specs.declared.events.PlaceEvent.{PlaceEvent}
 use Rattle.rx_rules.specs.Plays.{Fits}
 use Rattle.rx_runs.specs.Segments.{StandGoes, stays, asks}
-use Rattle.rx_runs.specs.Ties.{Moves, HasLanded, has_end}
+use Rattle.rx_runs.specs.Ties.{HasLanded, has_end}
 use Rattle.rx_runs.specs.Games.{TaskSo, away, going, over, PlayerSo, Landed, stand, fresh}
 use Rattle.rx_runs.proofs.Segments.{joined, ended}
 use Rattle.rx_runs.proofs.Stores.{Piece}

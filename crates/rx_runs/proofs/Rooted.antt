@@ -15,7 +15,7 @@ use Rattle.rx_rules.specs.declared.entries.Entry.{Entry}
 use Rattle.rx_rules.specs.declared.entries.Entry.TheVariants.{Step, Root, Death, Join}
 use Rattle.rx_rules.specs.declared.events.PlaceEvent.{PlaceEvent}
 use Rattle.rx_rules.specs.Picked as picked
-use Rattle.rx_runs.proofs.Journals.{homes_on, none_first}
+use Rattle.rx_runs.proofs.Journals.{homes_on}
 use Rattle.rx_runs.proofs.Append.{allowed-push}
 use Rattle.rx_runs.specs.Segments.{plan_left, InTime}
 use Rattle.rx_rules.proofs.Append.{root-push}
@@ -24,6 +24,7 @@ use Rattle.rx_runs.proofs.Segments.{stopped}
 use Rattle.rx_runs.proofs.Planned.{planned_no_root, due_planned}
 use Rattle.rx_rules.proofs.Deaths.{death-push}
 use Rattle.rx_runs.proofs.Pushes.{plan-push, moves-push, birth-push}
+use Rattle.rx_tree_laws.proofs.Histories.{first_none}
 
 -- what a task has played, whether it goes on or not
 pub landed : {starts : List (Term × Vars)} (b : Birth) (start : Term × Vars) (cells : List (ℕ × Cell × List ℕ)) (moves rest : List (ℕ × Act × List (List ℕ))) (low : ℕ) → Landed b moves low rest → Plays starts b.to low start.1 start.0 [] cells rest → BeginsWithArrival starts b.to (travels b) b.low start.1 start.0 cells moves
@@ -59,7 +60,7 @@ journals_root : (U : Given) (es : List Entry) (lost : PlaceSet) (masked : ℕ) (
 journals_root U es lost masked thrown p [] Ss h = tt
 journals_root U es lost masked thrown p (j ∷ js) [] h = absurd h
 journals_root U es lost masked thrown p (j ∷ js) (S ∷ Ss) h =
-    let same : death_number 0 (record { 0 = p }) (es ++ Root lost masked thrown ∷ []) ≡ death_number 0 (record { 0 = p }) es = death-push 0 (record { 0 = p }) es (Root lost masked thrown) ∙ none_first (death_number 0 (record { 0 = p }) es) in
+    let same : death_number 0 (record { 0 = p }) (es ++ Root lost masked thrown ∷ []) ≡ death_number 0 (record { 0 = p }) es = death-push 0 (record { 0 = p }) es (Root lost masked thrown) ∙ first_none (death_number 0 (record { 0 = p }) es) in
     (record { law = h.0.law; homes = homes_on es (Root lost masked thrown) p j (λ m low. birth-push 0 es (Root lost masked thrown) m refl) h.0.homes; rising = h.0.rising; closed = subst (λ (o : Option ℕ). ClosesAt o j) (sym same) h.0.closed }, journals_root U es lost masked thrown (suc p) js Ss h.1)
 
 no_end : (es : List Entry) (e : Entry) → NoRoot es → NoRoot (e ∷ []) → EndsWithRoot (es ++ e ∷ []) → ⊥

@@ -3,13 +3,13 @@ use Rattle.std.proofs.Common.{◌≡◌, ◌≢◌, ℕ, zero, suc, ◌<◌, ◌
 use Rattle.std.specs.List.{find}
 use Rattle.std.proofs.lemmas.Bool.{eq-eqb, eqb-true, true≢false}
 use Rattle.std.proofs.lemmas.List.Folds.{list_any-append}
-use Rattle.rx_rules.proofs.Common.{TaskId, is_task, change_first, Birth, birth_of, moves_from, death_number}
+use Rattle.rx_rules.proofs.Common.{TaskId, is_task, change_first, Moves, Birth, birth_of, moves_from, death_number}
 use Rattle.rx_rules.specs.declared.tasks.Where.{Where}
 use Rattle.rx_rules.specs.declared.tasks.Where.TheVariants.{At, Travel}
 use Rattle.rx_rules.specs.declared.entries.Act.{Act}
 use Rattle.rx_rules.specs.declared.entries.Entry.{Entry}
 use Rattle.rx_rules.specs.declared.tasks.Task.{Task}
-use Rattle.rx_runs.specs.Ties.{Moves, is_end, has_end, HasLanded, PlaceSo, RowSo, RowsSo}
+use Rattle.rx_runs.specs.Ties.{is_end, has_end, HasLanded, PlaceSo, RowSo, RowsSo}
 use Rattle.rx_runs.proofs.Told.{Told}
 
 pub rows-up : (n m : ℕ) (es : List Entry) (xs : List Task) → n ≤ m → RowsSo n es xs → RowsSo m es xs

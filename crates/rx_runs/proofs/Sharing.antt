@@ -3,7 +3,7 @@ use Rattle.std.proofs.Common.{◌≡◌, ℕ, zero, suc, ◌+◌, ◌<◌, ◌�
 use Rattle.std.specs.List.{cons_option}
 use Rattle.std.proofs.lemmas.Bool.{eq-eqb, true≢false}
 use Rattle.std.proofs.lemmas.List.Sums.{sum_by-cons}
-use Rattle.rx_rules.proofs.Common.{TaskId, Term, Vars, Tree, made, Allowed, AllowedAct, births, births_of, AllAllowed, Reached, IsOlder, Starts, started_by, move_of, moves_from}
+use Rattle.rx_rules.proofs.Common.{TaskId, Term, Vars, Tree, made, Allowed, AllowedAct, births, births_of, AllAllowed, Reached, IsOlder, Starts, Moves, started_by, move_of, moves_from}
 use Rattle.rx_rules.specs.declared.entries.Act.{Act}
 use Rattle.rx_rules.specs.declared.entries.Act.TheVariants.{Open, At as Calls, Spawn, Arrive, Wait, Release, End, Print, Census}
 use Rattle.rx_rules.specs.declared.entries.Entry.{Entry}
@@ -12,7 +12,6 @@ use Rattle.rx_rules.proofs.Numbers.{next-made}
 use Rattle.rx_tree_laws.proofs.Reach.{task_below}
 use Rattle.rx_tree_laws.proofs.Reached.{sound}
 use Rattle.rx_tree_laws.proofs.Histories.{reached_now, dead-now}
-use Rattle.rx_runs.specs.Ties.{Moves}
 
 -- A number for each act.
 

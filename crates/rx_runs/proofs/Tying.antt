@@ -3,7 +3,7 @@ use Rattle.std.proofs.Common.{◌≡◌, ◌≢◌, ℕ, suc, ◌+◌, ◌<◌, 
 use Rattle.std.proofs.lemmas.Bool.{eq-eqb, eqb-true, true≢false, or_parts}
 use Rattle.std.proofs.lemmas.List.{append-nil, get_or-set_same, get_or-set_other}
 use Rattle.std.proofs.lemmas.List.Folds.{list_any-append}
-use Rattle.rx_rules.proofs.Common.{PlaceId, TaskId, ScopeId, Fault, Tree, is_task, death_of, change_first, hit, is_hit, strike, waiting, resumed, born, widened, made_act, after_end, AllowedAct, Birth, birth_in, birth_of, moves_from, started_by, death_number}
+use Rattle.rx_rules.proofs.Common.{PlaceId, TaskId, ScopeId, Fault, Tree, is_task, death_of, change_first, hit, is_hit, strike, waiting, resumed, born, widened, made_act, after_end, AllowedAct, Moves, Birth, birth_in, birth_of, moves_from, started_by, death_number}
 use Rattle.rx_rules.specs.declared.tasks.Where.{Where}
 use Rattle.rx_rules.specs.declared.tasks.Where.TheVariants.{At, Travel}
 use Rattle.rx_rules.specs.declared.entries.Act.{Act}
@@ -14,7 +14,7 @@ use Rattle.rx_rules.specs.declared.tasks.Task.{Task}
 use Rattle.rx_rules.specs.declared.tasks.Blow.{Blow}
 use Rattle.rx_rules.proofs.Append.{end-tasks}
 use Rattle.rx_tree_laws.proofs.Blows.{hit_number, hit_place}
-use Rattle.rx_runs.specs.Ties.{Moves, is_end, has_end, HasLanded, PlaceSo, RowSo, RowsSo, Ties}
+use Rattle.rx_runs.specs.Ties.{is_end, has_end, HasLanded, PlaceSo, RowSo, RowsSo, Ties}
 use Rattle.rx_runs.proofs.Pushes.{moves-push, birth-push}
 use Rattle.rx_runs.proofs.Journals.{death_same, other_death, own_death}
 use Rattle.rx_runs.proofs.Told.{Told, told, StartsAt, birth_other, among-push, birth-new}

@@ -10,9 +10,8 @@ use Rattle.rx_rules.specs.Code.{Block, work}
 use Rattle.rx_rules.specs.Terms.{Term, Empty, Vars, no_vars, items, Answer, answered, vars_after, Does, Local, Makes, Gets, Puts}
 use Rattle.rx_rules.specs.Terms.{Forgets, Opens, Calls as Asks, Spawns, Waits, Releases, Prints, Counts, Done, does, granted}
 use Rattle.rx_rules.specs.Fold.{births}
-use Rattle.rx_rules.specs.Plays.{Starts, Fits, StartsSo, brought, vars_told, moves_from, birth_of, travels}
+use Rattle.rx_rules.specs.Plays.{Starts, Moves, Fits, StartsSo, brought, vars_told, moves_from, birth_of, travels}
 use Rattle.rx_rules.specs.Run.{Given, Proper, Folds, IsRun}
-use Rattle.rx_runs.specs.Ties.{Moves}
 
 -- the term calls the store
 abbrev pub AsksStore : Does → Type 0

@@ -1,10 +1,8 @@
 -- How many entries a term may still make, with those of the tasks that it will start, but without its own end.
-use Rattle.std.specs.Prelude.{ℕ, ◌+◌, ◌-◌, ◌*◌, ◌≤◌, List, []}
-use Rattle.rx_base.specs.declared.values.Fault.{Fault}
+use Rattle.std.specs.Prelude.{ℕ, ◌+◌, ◌-◌, ◌*◌}
 use Rattle.rx_rules.specs.Code.{work, work_of}
-use Rattle.rx_rules.specs.Terms.{Term, Empty, Raise, Run, Turns, Trying, Body, Held, Does, Local, Makes, Gets, Puts, Forgets, Opens}
-use Rattle.rx_rules.specs.Terms.{Calls, Spawns, Waits, Releases, Prints, Counts, Done, granted, child, Vars, does}
-use Rattle.rx_rules.specs.Terms.{Answer, answered}
+use Rattle.rx_rules.specs.Terms.{Term, Empty, Raise, Run, Turns, Trying, Body, Held, Does, Vars, does}
+use Rattle.rx_runs.specs.Steps.{Falls}
 
 -- at most four for each unit of work
 abbrev pub cost : Term → ℕ
@@ -16,21 +14,13 @@ cost (Trying inside dead_only handler x rest) = cost inside + 4 * work handler +
 cost (Body inside rest) = cost inside + 2 + cost rest
 cost (Held rest) = 1 + cost rest
 
--- An entry costs one, and a task that is started two more: its arrival and its end. Local steps and store calls cost nothing.
+-- a task that is started brings its entries, its arrival and its end
+abbrev pub started_cost : Term → ℕ
+started_cost t = cost t + 2
+
+-- An entry costs one. Local steps and store calls cost nothing.
 abbrev pub Spends : Term → Does → Type 0
-Spends t (Local after vars) = cost after ≤ cost t
-Spends t (Makes name words) = (a : Answer) → cost (answered a t) ≤ cost t
-Spends t (Gets name target index) = (a : Answer) → cost (answered a t) ≤ cost t
-Spends t (Puts target index value) = (a : Answer) → cost (answered a t) ≤ cost t
-Spends t (Forgets target) = (a : Answer) → cost (answered a t) ≤ cost t
-Spends t Opens = cost (granted [] t) + 1 ≤ cost t
-Spends t (Calls p) = cost (granted [] t) + cost (child t) + 3 ≤ cost t
-Spends t (Spawns p) = cost (granted [] t) + cost (child t) + 3 ≤ cost t
-Spends t (Waits faults) = cost (granted [] t) + 1 ≤ cost t
-Spends t Releases = (faults : List Fault) → cost (granted faults t) + 1 ≤ cost t
-Spends t (Prints value) = cost (granted [] t) + 1 ≤ cost t
-Spends t (Counts name) = cost (granted [] t) + 1 ≤ cost t
-Spends t (Done faults) = Unit {0}
+Spends t d = Falls cost started_cost 0 0 1 t d
 
 -- no step of a term costs more than it has
 abbrev pub TermSpends : Type 0

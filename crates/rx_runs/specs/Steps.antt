@@ -15,21 +15,30 @@ steps (Trying inside dead_only handler x rest) = steps inside + (1 + 3 * work ha
 steps (Body inside rest) = steps inside + 2 + steps rest
 steps (Held rest) = 1 + steps rest
 
--- Each step leaves less: a local step, the store's answer, and a granted request with the new task's steps and its end.
+-- Each step of a term leaves less, by `size`: a local step by `step`, the store's answer by `call`, and a granted request by
+-- `entry`, and by what the new task brings.
+abbrev pub Falls : (Term → ℕ) → (Term → ℕ) → ℕ → ℕ → ℕ → Term → Does → Type 0
+Falls size brings step call entry t (Local after vars) = size after + step ≤ size t
+Falls size brings step call entry t (Makes name words) = (a : Answer) → size (answered a t) + call ≤ size t
+Falls size brings step call entry t (Gets name target index) = (a : Answer) → size (answered a t) + call ≤ size t
+Falls size brings step call entry t (Puts target index value) = (a : Answer) → size (answered a t) + call ≤ size t
+Falls size brings step call entry t (Forgets target) = (a : Answer) → size (answered a t) + call ≤ size t
+Falls size brings step call entry t Opens = size (granted [] t) + entry ≤ size t
+Falls size brings step call entry t (Calls p) = size (granted [] t) + (brings (child t) + entry) ≤ size t
+Falls size brings step call entry t (Spawns p) = size (granted [] t) + (brings (child t) + entry) ≤ size t
+Falls size brings step call entry t (Waits faults) = size (granted [] t) + entry ≤ size t
+Falls size brings step call entry t Releases = (faults : List Fault) → size (granted faults t) + entry ≤ size t
+Falls size brings step call entry t (Prints value) = size (granted [] t) + entry ≤ size t
+Falls size brings step call entry t (Counts name) = size (granted [] t) + entry ≤ size t
+Falls size brings step call entry t (Done faults) = Unit {0}
+
+-- a task that is started brings its steps and its end
+abbrev pub started_steps : Term → ℕ
+started_steps t = steps t + 1
+
+-- each step leaves one step less
 abbrev pub Sinks : Term → Does → Type 0
-Sinks t (Local after vars) = steps after + 1 ≤ steps t
-Sinks t (Makes name words) = (a : Answer) → steps (answered a t) + 1 ≤ steps t
-Sinks t (Gets name target index) = (a : Answer) → steps (answered a t) + 1 ≤ steps t
-Sinks t (Puts target index value) = (a : Answer) → steps (answered a t) + 1 ≤ steps t
-Sinks t (Forgets target) = (a : Answer) → steps (answered a t) + 1 ≤ steps t
-Sinks t Opens = steps (granted [] t) + 1 ≤ steps t
-Sinks t (Calls p) = steps (granted [] t) + steps (child t) + 2 ≤ steps t
-Sinks t (Spawns p) = steps (granted [] t) + steps (child t) + 2 ≤ steps t
-Sinks t (Waits faults) = steps (granted [] t) + 1 ≤ steps t
-Sinks t Releases = (faults : List Fault) → steps (granted faults t) + 1 ≤ steps t
-Sinks t (Prints value) = steps (granted [] t) + 1 ≤ steps t
-Sinks t (Counts name) = steps (granted [] t) + 1 ≤ steps t
-Sinks t (Done faults) = Unit {0}
+Sinks t d = Falls steps started_steps 1 1 1 t d
 
 -- each step of a term leaves less
 abbrev pub TermSinks : Type 0

@@ -10,12 +10,8 @@ use Rattle.rx_rules.specs.declared.tasks.Task.{Task}
 use Rattle.rx_rules.specs.declared.entries.Entry.{Entry}
 use Rattle.rx_rules.specs.declared.entries.Entry.TheVariants.{Step, Root, Death, Join}
 use Rattle.rx_rules.specs.Tree.{Tree, death_of}
-use Rattle.rx_rules.specs.Plays.{Birth, birth_in, birth_of, travels, moves_from}
+use Rattle.rx_rules.specs.Plays.{Birth, Moves, birth_in, birth_of, travels, moves_from}
 use Rattle.rx_rules.specs.Run.{Event, death_number}
-
--- the entries of a task, each with its number and batch
-abbrev pub Moves : Type 0
-Moves = List (ℕ × Act × List (List ℕ))
 
 -- the entry is an end
 abbrev pub is_end : ℕ × Act × List (List ℕ) → Bool

@@ -1,8 +1,8 @@
 -- What the parts of a script stand for, and how writing them goes on.
-use Rattle.std.proofs.Common.{◌≡◌, ℕ, suc, ◌+◌, ◌<◌, ◌≤◌, Bool, true, false, List, [], ◌∷◌, ◌++◌, length, drop, Some, refl, ap, sym, ◌∙◌, subst, append_assoc, append-nil, add-one, pos, arith, slice_get, reverse, IfSome, OnOk, Option, Result, Ok, Err}
+use Rattle.std.proofs.Common.{◌≡◌, ℕ, suc, ◌+◌, ◌<◌, Bool, true, false, List, [], ◌∷◌, ◌++◌, length, drop, Some, refl, ap, sym, ◌∙◌, subst, append_assoc, append-nil, add-one, pos, slice_get, reverse, IfSome, OnOk, Option, Result, Ok, Err}
 use Rattle.std.proofs.lemmas.Grind.{flat_map-append}
 use Rattle.std.specs.List.{flat_map}
-use Rattle.std.proofs.lemmas.List.{reverse-append, reverse-reverse, drop_all}
+use Rattle.std.proofs.lemmas.List.{reverse-append, reverse-reverse}
 use Rattle.std.proofs.lemmas.Option.{slice_get_within}
 use Rattle.rx_base.proofs.Elements.{drop-suc}
 use Rattle.rx_rules.proofs.Common.{Expr as Tree, Num, Name, Here, Bin, Block, Nothing, Then, Stmt, SetTo, New, Get, Put, Forget, Census, Print, Throw, Async, AtAsync, At, Finish, If, Repeat, Try}
@@ -13,7 +13,6 @@ use Rattle.rx_syntax.specs.declared.nodes.Stmt.{Stmt as Node}
 use Rattle.rx_syntax.specs.declared.nodes.Stmt.TheVariants as nodes
 use Rattle.rx_syntax.specs.declared.nodes.Expr.{Expr as Leaf}
 use Rattle.rx_syntax.specs.declared.nodes.Expr.TheVariants as leaves
-use Rattle.rx_syntax.specs.declared.token.Op.TheVariants as signs
 use Rattle.rx_syntax.specs.declared.token.Keyword.TheVariants.{Async as KAsync, At as KAt, If as KIf, Else as KElse, Catch as KCatch, Dead as KDead}
 use Rattle.rx_syntax.specs.declared.token.Sign.TheVariants.{OpenBrace as LBrace, CloseBrace as RBrace, OpenParen as LParen, CloseParen as RParen, OpenSquare as LSquare, CloseSquare as RSquare, Equals, Semicolon}
 use Rattle.rx_syntax.specs.declared.token.Token.{Token}
@@ -96,30 +95,6 @@ stmt-parts s (nodes.Try first dead_only second) (Try a d b) h = record {
 }
 stmt-parts s _ _ h = absurd h
 
-few : (s : Node) → length (parts_after s) ≤ 8
-few (nodes.Set name index) = omega arith
-few (nodes.New name words) = omega arith
-few (nodes.Get name target index) = omega arith
-few (nodes.Put target index new) = omega arith
-few (nodes.Forget target) = omega arith
-few (nodes.Census name) = omega arith
-few (nodes.Print id) = omega arith
-few (nodes.Throw id) = omega arith
-few (nodes.Async k) = omega arith
-few (nodes.AtAsync place k) = omega arith
-few (nodes.At place k) = omega arith
-few (nodes.Finish k) = omega arith
-few (nodes.If test first other) = omega arith
-few (nodes.Repeat times k) = omega arith
-few (nodes.Try first false second) = omega arith
-few (nodes.Try first true second) = omega arith
-
-few-expr : (e : Leaf) → length (expr_rest e) ≤ 8
-few-expr (leaves.Num n) = omega arith
-few-expr (leaves.Name n) = omega arith
-few-expr leaves.Here = omega arith
-few-expr (leaves.Bin op left right) = omega arith
-
 -- the node that stands at a place is that which was read
 leaf-is : (a b : Leaf) (es : List Leaf) (i : ℕ) → slice_get es i ≡ Some a → slice_get es i ≡ Some b → b ≡ a
 leaf-is a b es i h k = cc
@@ -155,9 +130,6 @@ went-on s old new p t rest ps qs ts after text parts h =
       stands = subst (λ (ns : List Part). PartsStand s ns (a.left ++ h.1)) (sym parts) (parts-append s rest ps a.left h.1 a.stands.held h.4);
     }
 
-pub one-after : (s : Shape) (t : Token) (us : List Token) → PartStands s (One t) us → After s t [] us
-one-after s t us h = record { left = []; whole = h; stands = end-of s }
-
 pub value-after : (s : Shape) (id : ExprId) (node : Leaf) (us : List Token) → slice_get s.exprs id.0 ≡ Some node → PartStands s (Value id) us → After s (expr_front node) (expr_rest node) us
 value-after s id node us at h = subst (λ (ts : List Token). After s (expr_front node) (expr_rest node) ts) (sym h.2) (expr-parts s id node h.0 at h.1)
 
@@ -176,18 +148,6 @@ item-after s k i ids id node us in_blocks in_ids in_stmts h =
     let f : drop i h.0 ≡ id ∷ drop (i + 1) ids = ap (drop i) (sym e) ∙ drop-suc ids i id in_ids ∙ ap (λ j. id ∷ drop j ids) (sym (add-one i)) in
     let x : ListStands s (id ∷ drop (i + 1) ids) h.1 = subst (λ (js : List StmtId). ListStands s js h.1) f h.3 in
     subst (λ (ts : List Token). After s (front_of node) (parts_after node ++ From k (i + 1) ∷ []) ts) (sym h.4) (item-parts s k i ids id node h.1 in_blocks in_stmts x)
-
-none-left : (s : Shape) (b : Block) → ListStands s [] b → spellings b ≡ []
-none-left s Nothing h = refl
-none-left s (Then t ts) h = absurd h
-
--- a block at its end has no tokens
-pub block-ends : (s : Shape) (k : BlockId) (i : ℕ) (ids : List StmtId) (text : List ℕ) (ps : List Part) (ts : List Token) → slice_get s.blocks k.0 ≡ Some ids → length ids ≤ i → PartsStand s (From k i ∷ ps) ts → Wrote s text text ps ts
-block-ends s k i ids text ps ts in_blocks over h =
-    let e : ids ≡ h.3.0 = cc in
-    let f : drop i h.3.0 ≡ [] = ap (drop i) (sym e) ∙ drop_all i ids over in
-    let n : h.0 ≡ [] = h.3.4 ∙ none-left s h.3.1 (subst (λ (js : List StmtId). ListStands s js h.3.1) f h.3.3) in
-    record { wrote = []; left = h.1; whole = h.2 ∙ ap (λ us. us ++ h.1) n; text = sym (append-nil text); stands = h.4 }
 
 -- the same after an answer without an error
 pub both-ok : {A E : Type 0} (r : Result A E) (P Q R : Type 0) → OnOk r P → OnOk r Q → (P → Q → R) → OnOk r R
@@ -232,16 +192,6 @@ wrote-more s one two three p ps qs ts w next =
       text = v.text ∙ ap (λ bs. bs ++ flat_map (spaced s.names) v.wrote) w.text ∙ append_assoc one (flat_map (spaced s.names) w.wrote) (flat_map (spaced s.names) v.wrote) ∙ ap (λ bs. one ++ bs) (sym (flat_map-append (spaced s.names) w.wrote v.wrote));
       stands = v.stands;
     }
-
--- where no part is left, all was written
-pub wrote-all : (s : Shape) (old new : List ℕ) (ts : List Token) → Wrote s old new [] ts → new ≡ old ++ flat_map (spaced s.names) ts
-wrote-all s old new ts w =
-    let e : ts ≡ w.wrote = w.whole ∙ ap (λ us. w.wrote ++ us) w.stands ∙ append-nil w.wrote in
-    w.text ∙ ap (λ us. old ++ flat_map (spaced s.names) us) (sym e)
-
--- nothing is written at first
-pub wrote-none : (s : Shape) (text : List ℕ) (ps : List Part) (ts : List Token) → PartsStand s ps ts → Wrote s text text ps ts
-wrote-none s text ps ts h = record { wrote = []; left = ts; whole = refl; text = sym (append-nil text); stands = h }
 
 -- the whole script is the block at its top, from its first statement on
 pub top-stands : (s : Shape) (b : Block) → Stands s b → PartsStand s (From s.top 0 ∷ []) (spellings b)

@@ -10,7 +10,7 @@ use Rattle.rx_rules.proofs.Common.{Block}
 use Rattle.rx_history_laws.specs.Once.{IsNone, AllDiffer}
 use Rattle.rx_history_laws.proofs.Paths.{comes-trans, comes-other}
 use Rattle.rx_span.specs.Paths.{IsPath, ArePaths, ComesBefore}
-use Rattle.rx_span.specs.Chains.{In, AllIn}
+use Rattle.rx_span.specs.Chains.{In}
 use Rattle.rx_span.specs.Inside.Sorting.{comes, Below, Descends, next_of, backwards}
 use Rattle.rx_span.proofs.Sharing.{comes-true, true-comes, comes-either}
 
@@ -31,10 +31,6 @@ contains-in x ys h = in-at ys h.0 x h.1 h.2
 
 pub in-permutation : (xs ys : List (List ℕ)) (x : List ℕ) → IsPermutation xs ys → In x xs → In x ys
 in-permutation xs ys x p h = contains-in x ys (Contains-permutation xs ys x p (in-contains x xs h))
-
-pub all-in : (cs xs ys : List (List ℕ)) → ((x : List ℕ) → In x xs → In x ys) → AllIn cs xs → AllIn cs ys
-all-in [] xs ys f h = tt
-all-in (c ∷ cs) xs ys f h = (f c h.0, all-in cs xs ys f h.1)
 
 -- paths of a script
 pub path-in : (code : Block) (ys : List (List ℕ)) (x : List ℕ) → ArePaths code ys → In x ys → IsPath code x
@@ -91,10 +87,6 @@ length-back (suc k) xs = ap suc (length-back k xs)
 abbrev pub All : (List ℕ → Type 0) → List (List ℕ) → Type 0
 All P [] = Unit {0}
 All P (x ∷ xs) = P x × All P xs
-
-pub all-map : (P Q : List ℕ → Type 0) → ((x : List ℕ) → P x → Q x) → (xs : List (List ℕ)) → All P xs → All Q xs
-all-map P Q f [] h = tt
-all-map P Q f (x ∷ xs) h = (f x h.0, all-map P Q f xs h.1)
 
 pub all-member : (P : List ℕ → Type 0) (xs : List (List ℕ)) (x : List ℕ) → All P xs → In x xs → P x
 all-member P [] x h i = absurd i

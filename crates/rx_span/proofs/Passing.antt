@@ -1,7 +1,7 @@
 -- One path is passed.
-use Rattle.std.proofs.Common.{◌≡◌, ◌⊎◌, ℕ, zero, suc, ◌+◌, ◌<◌, ◌≤◌, ◌==◌, Bool, true, nat_lt, List, [], ◌∷◌, ◌++◌, length, map, filter, drop, slice_get, Some, option_map, refl, ap, sym, subst, ◌∙◌, arith, inl, inr, add-one, get_or, ⊎_elim}
+use Rattle.std.proofs.Common.{◌≡◌, ◌⊎◌, ℕ, zero, suc, ◌+◌, ◌<◌, ◌≤◌, ◌==◌, Bool, true, nat_lt, List, [], ◌∷◌, ◌++◌, length, map, filter, drop, slice_get, Some, refl, ap, sym, subst, ◌∙◌, arith, inl, inr, add-one, get_or, ⊎_elim}
 use Rattle.std.proofs.lemmas.Bool.{cond_both, cases_lt, eq-eqb}
-use Rattle.std.proofs.lemmas.Option.{slice_get-get_or, slice_get-map, get_or_from_slice_get}
+use Rattle.std.proofs.lemmas.Option.{slice_get-get_or, get_or_from_slice_get}
 use Rattle.rx_rules.proofs.Common.{Block}
 use Rattle.rx_order.specs.declared.marks.Role.{Role}
 use Rattle.rx_order.specs.Marks.{marks_of}
@@ -37,11 +37,6 @@ chains-short code (x ∷ S) =
     ((let k : suc (length (pick (filter (may_lead code x) (best_chains code S)))) ≤ suc (length S) = omega arith in k), each-map (λ c. length c ≤ length S) (λ c. length c ≤ suc (length S)) (λ c k. omega arith) (best_chains code S) r)
 
 -- The path at a place.
-
-pub next-map : {X : Type 0} (f : X → List ℕ) (xs : List X) (n : ℕ) (x : X) → x ≡ get_or xs n x → n < length xs → f x ≡ next_of n (map f xs)
-next-map f xs n x e l =
-    let g : slice_get (map f xs) n ≡ Some (f x) = slice_get-map f xs n ∙ ap (option_map f) (slice_get-get_or xs n x l) ∙ ap (λ y. Some (f y)) (sym e) in
-    sym (get_or_from_slice_get (map f xs) n (f x) [] g)
 
 -- the path that stands at a position
 pub next-there : {X : Type 0} (f : X → List ℕ) (xs : List X) (i : ℕ) (x : List ℕ) → slice_get (map f xs) i ≡ Some x → next_of i (map f xs) ≡ x

@@ -61,10 +61,6 @@ shared-more i j x y e = rw (eq-eqb i j e) refl
 pub shared-none : (i j : ℕ) (x y : List ℕ) → (i ≡ j → ⊥) → shared (i ∷ x) (j ∷ y) ≡ 0
 shared-none i j x y e = rw (ne_eqb i j e) refl
 
-pub shared-self : (x : List ℕ) → shared x x ≡ length x
-shared-self [] = refl
-shared-self (i ∷ x) = shared-more i i x x refl ∙ ap suc (shared-self x)
-
 pub shared-left : (x y : List ℕ) → shared x y ≤ length x
 shared-left [] y = omega arith
 shared-left (i ∷ x) [] = omega arith
@@ -85,9 +81,6 @@ shared-min (i ∷ x) (j ∷ y) (l ∷ z) (inl h) (inr k) = let e = k.0 in rw (sh
 shared-min (i ∷ x) (j ∷ y) (l ∷ z) (inr h) (inl k) = let e = h.0 in rw (shared-none i l x z (λ e. omega arith), shared-none j l y z (λ e. omega arith)) (omega arith)
 shared-min (i ∷ x) (j ∷ y) (l ∷ z) (inr h) (inr k) =
     let r = shared-min x y z h.1 k.1 in rw (shared-more i l x z (h.0 ∙ k.0), shared-more i j x y h.0, shared-more j l y z k.0) (omega arith)
-
-pub shared-min_self : (x y : List ℕ) → shared x y ≡ min (shared x y) (shared y y)
-shared-min_self x y = let e = shared-self y in let h = shared-right x y in omega arith
 
 -- they part there, or the first begins the second
 pub fork-or-start : (x y : List ℕ) → ComesBefore x y → Fork x y (shared x y) ⊎ (Starts x y × (shared x y ≡ length x))

@@ -7,11 +7,11 @@ use Rattle.rx_span.specs.declared.chains.Kept.{Kept}
 use Rattle.rx_span.specs.Paths.{IsPath, ComesBefore}
 use Rattle.rx_span.specs.Inside.Sorting.{shared}
 use Rattle.rx_span.specs.Inside.Best.{may_lead, better, pick, best_chains}
-use Rattle.rx_span.specs.Inside.Kept.{none, better_kept, leads, follow, past, IsKept}
+use Rattle.rx_span.specs.Inside.Kept.{better_kept, leads, follow, past, IsKept}
 use Rattle.rx_span.proofs.Picks.{Chain, Each, each-map, each-all, filter-same, NeverRises}
 use Rattle.rx_span.proofs.Sharing.{shared-left, shared-right, shared-min, marks_of-all, before-leads}
 use Rattle.rx_span.proofs.Lists.{All, Ascends}
-use Rattle.rx_span.proofs.Rows.{kept-none, kept-more, kept-is, kept-better, Rows, led, follow-is, past-is, Table}
+use Rattle.rx_span.proofs.Rows.{kept-more, kept-is, kept-better, Rows, led, follow-is, past-is, Table}
 
 abbrev pub head_of : Chain → List ℕ
 head_of [] = []
@@ -26,9 +26,6 @@ pub record State (code : Block) (x : List ℕ) (S : List (List ℕ)) (rows : Lis
   pub few : Each (λ c. with_head x c ≤ from) (best_chains code S)
   pub each : Rows (best_chains code S) (with_head x) 0 (take from rows)
   pub best : IsKept (best_chains code S) passed (pick (filter (λ c. with_head x c == from) (best_chains code S)))
-
-pub state-start : (code : Block) (x : List ℕ) (k : Kept) → k ≡ none → State code x [] [] 0 k
-state-start code x k e = record { few = tt; each = tt; best = subst (λ l. IsKept [] l []) (sym e) (kept-none []) }
 
 each-heads : (code : Block) (P : List ℕ → Type 0) (S : List (List ℕ)) → All P S → Each (λ c. P (head_of c)) (best_chains code S)
 each-heads code P [] h = tt

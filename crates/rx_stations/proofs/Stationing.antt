@@ -16,6 +16,7 @@ use Rattle.rx_objects.proofs.Places.{met_one}
 use Rattle.rx_objects.specs.Opened.{PlaceIs}
 use Rattle.rx_activities.specs.Knowing.{IsOfRun}
 use Rattle.rx_stations.specs.Stations.{PostName, AreFrom}
+use Rattle.rx_base.proofs.SameIds.{place-is}
 
 -- the i-th of them is of place p + i
 pub post_at : (p i : ℕ) (ss : List PostName) (s : PostName) → AreFrom p ss → slice_get ss i ≡ Some s → s.place.0 ≡ p + i
@@ -27,12 +28,9 @@ post_at p zero (x ∷ ss) s are is =
 post_at p (suc i) (x ∷ ss) s are is =
     let a = post_at (suc p) i ss s are.1 is in omega (arith, a)
 
-pub place_of_number : (a b : PlaceId) → a.0 ≡ b.0 → a ≡ b
-place_of_number a b same = ap (λ (n : ℕ). let r : PlaceId = record { 0 = n } in r) same
-
 -- the station at a place's number is that of the place
 pub post_is : (ss : List PostName) (p : PlaceId) (s : PostName) → AreFrom 0 ss → slice_get ss p.0 ≡ Some s → s.place ≡ p
-post_is ss p s are is = let a = post_at 0 p.0 ss s are is in place_of_number s.place p (omega (arith, a))
+post_is ss p s are is = let a = post_at 0 p.0 ss s are is in place-is s.place p (omega (arith, a))
 
 pub place_moves : (L : BookName LedgerFixed) (p q : PlaceId) (b : BookName PlaceFixed) → p ≡ q → PlaceIs L p b → PlaceIs L q b
 place_moves L p q b same is = subst (λ (r : PlaceId). PlaceIs L r b) same is

@@ -3,7 +3,7 @@ use Rattle.std.proofs.Common.{◌≡◌, ◌≢◌, ℕ, zero, suc, ◌+◌, ◌
 use Rattle.std.specs.List.{prefix_len, list_all}
 use Rattle.std.proofs.lemmas.List.Sums.{prefix_len-le-length}
 use Rattle.std.proofs.lemmas.Option.{same_Some}
-use Rattle.rx_base.proofs.Elements.{get-within, get-more}
+use Rattle.rx_base.proofs.Elements.{get-more}
 use Rattle.rx_syntax.specs.declared.token.Op.TheVariants.{Equal}
 use Rattle.rx_syntax.specs.declared.token.Keyword.{Keyword}
 use Rattle.rx_syntax.specs.declared.token.Sign.TheVariants.{Equals}
@@ -158,9 +158,6 @@ not-empty (x ∷ xs) e h = cc
 pub record Goes (names : List (List ℕ)) (n : ℕ) (bytes : List ℕ) (ts : List Token) (starts : List ℕ) (rest : List ℕ) : Type 0 where
   pub on : (more : List (List ℕ)) (us : List Token) (ss : List ℕ) → Scans (names ++ more) n rest us ss → Scans (names ++ more) n bytes (ts ++ us) (starts ++ ss)
 
-pub goes-none : (names : List (List ℕ)) (n : ℕ) (bytes : List ℕ) → Goes names n bytes [] [] bytes
-goes-none names n bytes = record { on = λ more us ss s. s }
-
 goes-whole : (names : List (List ℕ)) (n : ℕ) (bytes : List ℕ) (ts : List Token) (starts rest : List ℕ) (us : List Token) (ss : List ℕ) → Goes names n bytes ts starts rest → Scans names n rest us ss → Scans names n bytes (ts ++ us) (starts ++ ss)
 goes-whole names n bytes ts starts rest us ss g s =
     subst (λ ns. Scans ns n bytes (ts ++ us) (starts ++ ss)) (append-nil names) (g.on [] us ss (subst (λ ns. Scans ns n rest us ss) (sym (append-nil names)) s))
@@ -276,10 +273,3 @@ starts-long names n bytes (Number x ∷ ts) (at ∷ starts) s = ap suc (starts-l
 starts-long names n bytes (Oper x ∷ ts) (at ∷ starts) s = ap suc (starts-long names n s.1 ts starts s.5)
 starts-long names n bytes (Mark x ∷ ts) (at ∷ starts) s = ap suc (starts-long names n s.1 ts starts s.5)
 starts-long names n bytes (Bad ∷ ts) (at ∷ starts) s = ap suc (ap length s.1 ∙ ap (λ us. suc (length us)) (sym s.0))
-
-pub start-of : (names : List (List ℕ)) (n : ℕ) (bytes : List ℕ) (ts : List Token) (starts : List ℕ) (i : ℕ) → Scans names n bytes ts starts → i ≤ length ts → (at : ℕ) × (slice_get starts i ≡ Some at)
-start-of names n bytes ts starts i s l = get-within starts i (omega (arith, l, starts-long names n bytes ts starts s))
-
--- what is left of the tokens from a place on has a start
-pub start-of-rest : (names : List (List ℕ)) (n : ℕ) (bytes : List ℕ) (ts bad : List Token) (starts : List ℕ) → Scans names n bytes ts starts → (at : ℕ) × (slice_get starts (length ts - length bad) ≡ Some at)
-start-of-rest names n bytes ts bad starts s = start-of names n bytes ts starts (length ts - length bad) s (omega arith)

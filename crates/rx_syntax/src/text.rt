@@ -4,7 +4,7 @@ ghost use Rattle.rx_syntax.specs.Texts.{keyword_text, op_text, sign_text, name_t
 
 use crate::token::{Keyword, Op, Sign, Token};
 use rx_base::NoMemory;
-use rx_text::put_num;
+use rx_text::{put_num, put_text};
 
 fn keyword(word: Keyword) -> &'static [u8]
     ensures { result.now ≡ keyword_text word }
@@ -59,18 +59,11 @@ fn mark(sign: Sign) -> &'static [u8]
     }
 }
 
-fn put(text: &mut Vec<u8>, bytes: &[u8]) -> Result<(), NoMemory>
-    ensures { OnOk result (text.new.items ≡ text.old.items ++ bytes.now) }
-{
-    text.extend_from_slice(bytes)?;
-    Ok(())
-}
-
 fn put_name(text: &mut Vec<u8>, names: &[Vec<u8>], number: u32) -> Result<(), NoMemory>
     ensures { OnOk result (text.new.items ≡ text.old.items ++ name_text (slice_get (map (λ n. n.items) names.now) number)) }
 {
     match names.get(number as usize) {
-        Some(name) => put(text, name),
+        Some(name) => put_text(text, name),
         None => Ok(()),
     }
 }
@@ -80,11 +73,11 @@ fn put_bare(text: &mut Vec<u8>, names: &[Vec<u8>], token: Token) -> Result<(), N
     ensures { OnOk result (text.new.items ≡ text.old.items ++ token_text (map (λ n. n.items) names.now) token) }
 {
     match token {
-        Token::Key(word) => put(text, keyword(word)),
+        Token::Key(word) => put_text(text, keyword(word)),
         Token::Called(number) => put_name(text, names, number),
         Token::Number(value) => put_num(text, value),
-        Token::Oper(op) => put(text, operator(op)),
-        Token::Mark(sign) => put(text, mark(sign)),
+        Token::Oper(op) => put_text(text, operator(op)),
+        Token::Mark(sign) => put_text(text, mark(sign)),
         Token::Bad => Ok(()),
     }
 }

@@ -14,7 +14,7 @@ use Rattle.std.proofs.lemmas.Bool.Decides.{nat_tests}
 use Rattle.std.proofs.lemmas.Fmt.{decimal_digit, decimal-digits_value, digits_value-decimal, first_decimal, length-decimal-le}
 use Rattle.std.proofs.Math.Seq.{take-append_seam}
 use Rattle.std.proofs.lemmas.Int.Digits.{digits_value_more}
-use Rattle.std.proofs.lemmas.List.{drop-drop, drop_all, take-append-drop}
+use Rattle.std.proofs.lemmas.List.{drop_all, take-append-drop}
 use Rattle.std.proofs.lemmas.Option.{same_Some}
 use Rattle.std.proofs.lemmas.Str.{digit_value_digit}
 use Rattle.std.proofs.lemmas.Str.Parse.{digits_value_short}
@@ -156,22 +156,6 @@ pair-found {A} a b x y e =
 
 pub found : {A : Type 0} (a b : A) (x y : ℕ) → a ≡ b → x ≡ y → Some (paired a x) ≡ Some (paired b y)
 found a b x y first second = rw first (rw second refl)
-
--- a number with no sign stands in front
-pub plain-stands : (bytes : List ℕ) (n len : ℕ) → n < 2 ^ 63 → bytes ≡ natural_text n ++ drop len bytes → NoDigitFirst (drop len bytes) → len ≤ length bytes → StandsAt bytes 0 (pos n) len
-plain-stands bytes n len low whole last within = record { fits = record { sfits = low }; spelled = whole; within = within; last = last }
-
--- a number with its sign stands in front
-pub signed-stands : (bytes : List ℕ) (k len : ℕ) → k < 2 ^ 63 → slice_index bytes 0 ≡ 45 → drop 1 bytes ≡ natural_text (suc k) ++ drop len (drop 1 bytes) → NoDigitFirst (drop len (drop 1 bytes)) → len ≤ length (drop 1 bytes) → StandsAt bytes 0 (negsuc k) (1 + len)
-signed-stands [] k len low sign whole last within = let apart : 0 ≡ 45 = sign in absurd (omega arith)
-signed-stands (b ∷ bs) k len low sign whole last within =
-    let after : drop (1 + len) (b ∷ bs) ≡ drop len bs = sym (drop-drop len 1 (b ∷ bs)) in
-    record {
-      fits = record { sfits = low };
-      spelled = ap (λ x. x ∷ bs) sign ∙ ap (λ t. 45 ∷ t) (whole ∙ ap (λ t. natural_text (suc k) ++ t) (sym after));
-      within = omega arith;
-      last = (let P : List ℕ → Type 0 = NoDigitFirst in subst P (sym after) last);
-    }
 
 abbrev pub IsExact : List ℕ → Option (ℕ × ℕ) → Type 0
 IsExact bytes r = (n : ℕ) (rest : List ℕ) → n < 10 ^ 19 → NoDigitFirst rest → bytes ≡ natural_text n ++ rest → r ≡ Some (n, length (natural_text n))

@@ -29,15 +29,3 @@ stands-front bytes text start n end inside rest stands =
       within = omega (arith, ap length rest, length-drop start bytes);
       last = (let P : List ℕ → Type 0 = NoDigitFirst in subst P (sym after) stands.last);
     }
-
--- a number that stands in front of what is left at a place stands there
-pub stands-there : (bytes text : List ℕ) (start : ℕ) (n : ℤ) (len : ℕ) → start ≤ length bytes → text ≡ drop start bytes → StandsAt text 0 n len → StandsAt bytes start n (start + len)
-stands-there bytes text start n len inside rest stands =
-    let within : len ≤ length text = stands.within in
-    let after : drop len text ≡ drop (start + len) bytes = ap (drop len) rest ∙ drop-drop len start bytes in
-    record {
-      fits = stands.fits;
-      spelled = sym rest ∙ stands.spelled ∙ ap (λ t. number_text n ++ t) after;
-      within = omega (arith, ap length rest, length-drop start bytes);
-      last = (let P : List ℕ → Type 0 = NoDigitFirst in subst P after stands.last);
-    }

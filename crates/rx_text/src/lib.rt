@@ -12,6 +12,6 @@ mod scan;
 pub use laws::{
     naturals_have_one_text, numbers_have_one_text, paths_have_one_text, written_numbers_stand,
 };
-pub use numbers::{push_bytes, push_natural, push_num, put_natural, put_num};
+pub use numbers::{push_bytes, push_natural, push_num, put_natural, put_num, put_text};
 pub use paths::put_path;
 pub use scan::scan_num;

@@ -60,6 +60,15 @@ pub fn push_natural(out: &mut Vec<u8>, n: u32)
     }
 }
 
+/// Appends a text as it is. A refusal leaves what was there.
+pub fn put_text(out: &mut Vec<u8>, text: &[u8]) -> Result<(), NoMemory>
+    ensures ok { OnOk result (out.new.items ≡ out.old.items ++ text.now) }
+    ensures err { OnErr result (out.new.items ≡ out.old.items) }
+{
+    out.extend_from_slice(text)?;
+    Ok(())
+}
+
 /// Appends bytes for which there is room. No memory is taken.
 pub fn push_bytes(out: &mut Vec<u8>, bytes: &[u8])
     requires room { vec_len out.old + length bytes.now ≤ vec_capacity out.old }

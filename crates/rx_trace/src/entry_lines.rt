@@ -5,12 +5,12 @@ ghost use Rattle.rx_trace.specs.Fields.{scope_field};
 
 use crate::fields::{
     push_natural_field, push_number_field, push_place_field, push_scope_field, push_task_field,
-    put_line_number, put_path_field, put_place_field, put_text,
+    put_line_number, put_path_field, put_place_field,
 };
 use crate::parts::{put_batch, put_release_parts, put_thrown};
 use crate::{Act, Entry, History};
 use rx_base::{NoMemory, Path, PlaceId, ScopeId};
-use rx_text::{push_bytes, push_natural};
+use rx_text::{push_bytes, push_natural, put_text};
 
 // The lines of all entries.
 pub(crate) fn put_entries(out: &mut Vec<u8>, h: &History) -> Result<(), NoMemory>

@@ -6,11 +6,11 @@ ghost use Rattle.rx_trace.specs.EventLines.{event_lines, journal_lines, journals
 
 use crate::fields::{
     push_block_field, push_natural_field, push_number_field, push_task_field, put_line_number,
-    put_natural_field, put_path_field, put_text,
+    put_natural_field, put_path_field,
 };
 use crate::{Cell, Journal, Journals, PlaceEvent};
 use rx_base::{GlobalRef, NoMemory};
-use rx_text::push_bytes;
+use rx_text::{push_bytes, put_text};
 
 // The lines of all journals.
 pub(crate) fn put_journals(out: &mut Vec<u8>, j: &Journals) -> Result<(), NoMemory>

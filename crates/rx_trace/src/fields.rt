@@ -6,15 +6,7 @@ ghost use Rattle.rx_trace.specs.Fields.{kill_field, fault_field};
 
 use itoa::Buffer;
 use rx_base::{Fault, GlobalRef, Kill, NoMemory, Path, PlaceId, ScopeId, TaskId};
-use rx_text::{push_natural, push_num, put_natural, put_num, put_path};
-
-// A text as it is.
-pub(crate) fn put_text(out: &mut Vec<u8>, text: &[u8]) -> Result<(), NoMemory>
-    ensures { OnOk result (out.new.items ≡ out.old.items ++ text.now) }
-{
-    out.extend_from_slice(text)?;
-    Ok(())
-}
+use rx_text::{push_natural, push_num, put_natural, put_num, put_path, put_text};
 
 // The number of a line, with which it begins.
 pub(crate) fn put_line_number(out: &mut Vec<u8>, n: usize) -> Result<(), NoMemory>

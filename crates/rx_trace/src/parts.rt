@@ -5,10 +5,9 @@ ghost use Rattle.rx_base.specs.Sets.{has_bit, members};
 ghost use Rattle.rx_trace.specs.Fields.{natural_field, path_field, fault_field};
 ghost use Rattle.rx_trace.specs.Parts.{lost_part, masked_part, thrown_part, release_parts, batch_part};
 
-use crate::fields::{
-    put_fault_field, put_natural_field, put_path_field, put_place_field, put_text,
-};
+use crate::fields::{put_fault_field, put_natural_field, put_path_field, put_place_field};
 use rx_base::{Batch, Faults, NoMemory, PlaceId, PlaceSet};
+use rx_text::put_text;
 
 // What a release names: the places that lost tasks, how many faults are masked, and then the faults.
 #[tactic(auto, using(std::proofs::Common::append_assoc))]

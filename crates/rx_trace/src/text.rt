@@ -8,9 +8,10 @@ ghost use Rattle.rx_trace.specs.Text.{sizes_line, kills_line, joins_line, setup_
 
 use crate::entry_lines::put_entries;
 use crate::event_lines::put_journals;
-use crate::fields::{put_kill_field, put_natural_field, put_text};
+use crate::fields::{put_kill_field, put_natural_field};
 use crate::{History, JoinList, Journals, KillList, Setup};
 use rx_base::NoMemory;
+use rx_text::put_text;
 
 /// Appends the text of a trace, of which docs/trace.md tells the lines. It asks nothing of the history and the journals. A refusal
 /// leaves `out` as it was. It takes time and memory in proportion to the text.

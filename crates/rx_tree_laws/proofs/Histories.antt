@@ -83,7 +83,7 @@ abbrev first_of : Option ℕ → Option ℕ → Option ℕ
 first_of (Some k) o = Some k
 first_of None o = o
 
-first_none : (o : Option ℕ) → first_of o None ≡ o
+pub first_none : (o : Option ℕ) → first_of o None ≡ o
 first_none None = refl
 first_none (Some k) = refl
 

@@ -2,7 +2,7 @@
 use Rattle.std.proofs.Common.{◌≡◌, ℕ, ◌<◌, ◌≤◌, true, false, cond, ◌||◌, ◌&&◌, ◌==◌, not, List, [], ◌∷◌, Option, Some, None, refl, sym, ap, ◌∙◌, subst, arith}
 use Rattle.std.specs.List.{find, list_any}
 use Rattle.std.proofs.Math.Bool.{and-true}
-use Rattle.std.proofs.lemmas.Bool.{eqb-true, eq-eqb, ne_eqb, true≢false, or_right, or_parts, or_from, and_left}
+use Rattle.std.proofs.lemmas.Bool.{eqb-true, eq-eqb, ne_eqb, true≢false, or_right, or_parts, or_from, and_left, and_right}
 use Rattle.rx_rules.proofs.Common.{PlaceId, TaskId, ScopeId, Tree, is_task, task_of, is_scope, wants, opened_by, own_scope, inner, is_finish, chain_in, governing_in, the_root, opened, home_for, place_number}
 use Rattle.rx_rules.proofs.Lookups.{number-of}
 use Rattle.rx_rules.specs.declared.tasks.Where.TheVariants.{At}
@@ -179,3 +179,12 @@ governs_rooted n (g ∷ gs) want f k m =
           let r = governs_rooted g.number.0 gs want f.1 parts.1 m2 in
           meets_skips the_root g gs (governing_in gs want) (met_start the_root g.number.0 gs (governing_in gs want) f.1 r) ∙ r
     ]) m
+
+unopened : (ts : List Task) (g : Scope) (gs : List Scope) (o : TaskId) (p : Option TaskId) → g.opener ≡ p → HasOpener ts g gs p → is_scope the_root g && opened_by o g ≡ false
+unopened ts g gs o None e h = and_right (is_scope the_root g) (opened_by o g) (rw e)
+unopened ts g gs o (Some p) e h = and_left (is_scope the_root g) (opened_by o g) (let low : h.task.under.0 < g.number.0 = h.older in ne_eqb g.number.0 0 (λ q. absurd (omega arith)))
+
+-- no task has opened the root
+pub root_unopened : (ts : List Task) (gs : List Scope) (o : TaskId) → Opened ts gs → list_any (λ x. is_scope the_root x && opened_by o x) gs ≡ false
+root_unopened ts [] o h = refl
+root_unopened ts (g ∷ gs) o h = or_from (is_scope the_root g && opened_by o g) (list_any (λ x. is_scope the_root x && opened_by o x) gs) (unopened ts g gs o g.opener refl h.0) (root_unopened ts gs o h.1)

@@ -46,11 +46,6 @@ task_below n (y ∷ ys) o x h e =
 
 -- Births.
 
-none_first : (a b : Option Blow) → earlier a b ≡ None → a ≡ None
-none_first None b e = refl
-none_first (Some c) None e = cc
-none_first (Some c) (Some d) e = (elim (ltb c.entry d.entry) as (λ v. cond v (Some c) (Some d) ≡ None → Some c ≡ None) [ true ↦ λ k. cc | false ↦ λ k. cc ]) e
-
 none_second : (a b : Option Blow) → earlier a b ≡ None → b ≡ None
 none_second None b e = e
 none_second (Some c) None e = cc

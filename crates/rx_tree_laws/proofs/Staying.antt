@@ -32,7 +32,7 @@ use Rattle.rx_tree_laws.proofs.Enabling.{inner_is}
 -- Lists.
 
 -- a change of another task
-find_unchanged : (t n : TaskId) (f : Task → Task) → ((x : Task) → (f x).number ≡ x.number) → n.0 ≢ t.0 → (xs : List Task) → find (is_task n) (change_first (is_task t) f xs) ≡ find (is_task n) xs
+pub find_unchanged : (t n : TaskId) (f : Task → Task) → ((x : Task) → (f x).number ≡ x.number) → n.0 ≢ t.0 → (xs : List Task) → find (is_task n) (change_first (is_task t) f xs) ≡ find (is_task n) xs
 find_unchanged t n f same apart [] = refl
 find_unchanged t n f same apart (x ∷ xs) =
     (elim (is_task t x) as (λ b. is_task t x ≡ b → find (is_task n) (cond b (f x ∷ xs) (x ∷ change_first (is_task t) f xs)) ≡ find (is_task n) (x ∷ xs)) [

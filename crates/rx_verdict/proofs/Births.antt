@@ -77,18 +77,6 @@ rises_from n (Root lost masked thrown ∷ es) c = rises_lower n (suc n) (omega a
 rises_from n (Death d ∷ es) c = rises_lower n (suc n) (omega arith) (moves_from (suc n) es c) (rises_from (suc n) es c)
 rises_from n (Join d ∷ es) c = rises_lower n (suc n) (omega arith) (moves_from (suc n) es c) (rises_from (suc n) es c)
 
--- a task that was born before is not born again
-pub born_before : (n : ℕ) (T : Tree) (es : List Entry) → AllAllowed n T es → (c : ℕ) → c < T.next_task → birth_from n es c ≡ record { from = record { 0 = 0 }; to = record { 0 = 0 }; low = 0 }
-born_before n T [] a c l = refl
-born_before n T (Step t act batch ∷ es) a c l =
-    let next : (made_act T t act).next_task ≡ T.next_task + births_of (Step t act batch) = next-made n T (Step t act batch) in
-    let other : StartsOther act c = ⊎_elim (λ (s : (d : TaskId) × (started_by act ≡ Some d) × (d.0 ≡ T.next_task) × (births_of (Step t act batch) ≡ 1)). other_some act c s.0 s.1 (λ e. let f : s.0.0 ≡ T.next_task = s.2 in omega arith))
-    (λ (s : (started_by act ≡ None) × (births_of (Step t act batch) ≡ 0)). other_none act c s.0) (starts T t act batch a.0) in
-    from-other n c t act batch es other ∙ born_before (suc n) (made_act T t act) es a.1 c (omega arith)
-born_before n T (Root lost masked thrown ∷ es) a c l = born_before (suc n) (made n T (Root lost masked thrown)) es a.1 c l
-born_before n T (Death d ∷ es) a c l = born_before (suc n) (made n T (Death d)) es a.1 c l
-born_before n T (Join d ∷ es) a c l = born_before (suc n) (made n T (Join d)) es a.1 c l
-
 -- the entries of a task that is yet to be born come after its birth
 pub rises_birth : (n : ℕ) (T : Tree) (es : List Entry) → Reached T → All (IsOlder n) T.dead → AllAllowed n T es → (c : ℕ) → T.next_task ≤ c → Rises (birth_from n es c).low (moves_from n es c)
 rises_birth n T [] r o a c le = tt

@@ -12,10 +12,12 @@ use Rattle.rx_verdict.specs.declared.verdict.Verdict.TheVariants.{Run}
 use Rattle.rx_verdict.specs.Makes.{Makes, MakesEvent, Between, Landing, Made, TaskMakes, TaskMakesEvent, cells_of}
 use Rattle.rx_verdict.specs.Verdicts.{Part, IsMade, IsGood, CauseOf, IsVerdict, VerdictIsRun, events_before}
 use Rattle.rx_verdict.proofs.Replays.{Climbs, Rises, AllMade, parts_play}
-use Rattle.rx_verdict.proofs.Births.{rises_from, rises_birth, born_before}
+use Rattle.rx_verdict.proofs.Births.{rises_from, rises_birth}
 use Rattle.rx_verdict.proofs.Once.{landing_map, made_at, made_once}
-use Rattle.rx_verdict.proofs.Journals.{climbs_of, Found, event_at, at_home, closes_at, journal_is, all_journals}
+use Rattle.rx_verdict.proofs.Journals.{climbs_of, Found, event_at, at_home, closes_at, all_journals}
 use Rattle.std.proofs.lemmas.Option.{slice_get_within}
+use Rattle.rx_tree_laws.proofs.Births.{born_before}
+use Rattle.rx_runs.proofs.Pairs.{journal_got}
 
 -- the entries that are left after landing rise too
 landing_rises : (P : ℕ → Moves → Type 0) (A : Type 0) (b : Bool) (low : ℕ) (moves : Moves) → Landing P A b low moves → Rises low moves → Landing (λ low moves. Rises low moves) (Unit {0}) b low moves
@@ -170,7 +172,7 @@ module _ (code : Block) (U : Given) (es : List Entry) (js : List (List PlaceEven
         ends = v.1;
         played = played;
         one_each = one_each;
-        journals = all_journals U es 0 js (λ i j e. let low : i < length js = slice_get_within js i j e in let at : i ≡ 0 + i = omega arith in subst (λ (z : ℕ). JournalOk U es z j) at (subst (λ (k : List PlaceEvent). JournalOk U es i k) (journal_is js i j e) (journal i (omega (arith, low)))));
+        journals = all_journals U es 0 js (λ i j e. let low : i < length js = slice_get_within js i j e in let at : i ≡ 0 + i = omega arith in subst (λ (z : ℕ). JournalOk U es z j) at (subst (λ (k : List PlaceEvent). JournalOk U es i k) (journal_got js i j e) (journal i (omega (arith, low)))));
       }
 
 pub verdict_is_run : VerdictIsRun

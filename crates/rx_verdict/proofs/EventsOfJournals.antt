@@ -1,10 +1,10 @@
 -- The journals of all places.
-use Rattle.std.proofs.Common.{◌≡◌, ℕ, zero, suc, ◌+◌, ◌<◌, false, List, [], ◌∷◌, ◌++◌, map, replicate, length, take, Option, Some, None, option_map, slice_get, refl, ap, ◌∙◌, arith}
+use Rattle.std.proofs.Common.{◌≡◌, ℕ, zero, suc, ◌+◌, ◌<◌, false, List, [], ◌∷◌, ◌++◌, map, replicate, length, take, Some, None, option_map, slice_get, refl, ap, ◌∙◌, arith}
 use Rattle.std.specs.List.{filter_map}
 use Rattle.std.proofs.lemmas.Option.{slice_get-map}
 use Rattle.rx_rules.specs.declared.events.PlaceEvent.{PlaceEvent}
 use Rattle.rx_rules.specs.declared.events.PlaceEvent.TheVariants.{Done, Close}
-use Rattle.rx_rules.proofs.Common.{journal_at, close_in}
+use Rattle.rx_rules.proofs.Common.{close_in}
 use Rattle.rx_history.specs.Events.{Events, AllEvents, events_of}
 use Rattle.rx_kills.proofs.Dying.{take-next}
 use Rattle.rx_verdict.specs.Marked.{no_marks}
@@ -15,9 +15,6 @@ journals-long (x ∷ xs) = ap suc (journals-long xs)
 
 pub events-at : (a : AllEvents) (p : ℕ) (j : Events) → slice_get a.journals p ≡ Some j → slice_get (events_of a) p ≡ Some j.events
 events-at a p j at = slice_get-map (λ (j : Events). j.events) a.journals p ∙ ap (option_map (λ (j : Events). j.events)) at
-
-pub journal-is : (js : List (List PlaceEvent)) (p : ℕ) (j : List PlaceEvent) → slice_get js p ≡ Some j → journal_at js p ≡ j
-journal-is js p j at = ap (λ (o : Option (List PlaceEvent)). elim o [ Some x ↦ x | None ↦ [] ]) at
 
 unmarked-more : (xs : List (List PlaceEvent)) (j : List PlaceEvent) → no_marks (xs ++ j ∷ []) ≡ no_marks xs ++ replicate (length j) false ∷ []
 unmarked-more [] j = refl

@@ -2,7 +2,7 @@
 use Rattle.std.proofs.Common.{◌≡◌, ◌⊎◌, ℕ, zero, suc, ◌+◌, ◌<◌, ◌≤◌, ◌==◌, Bool, true, false, cond, List, [], ◌∷◌, length, take, Option, Some, None, slice_get, refl, ap, sym, subst, ◌∙◌, arith, inl, inr, ⊎_elim}
 use Rattle.std.specs.List.{filter_map, cons_option}
 use Rattle.std.proofs.lemmas.Bool.{eq-eqb, eqb-true}
-use Rattle.rx_rules.proofs.Common.{TaskId, births, Cells, cell_of, journal_at, birth_of, State, IsStoreRun, after_cell, Given, NotFalling, ClosesAt, AtHome, JournalOk, AllJournals, close_in, stamp_of}
+use Rattle.rx_rules.proofs.Common.{TaskId, births, Cells, cell_of, birth_of, State, IsStoreRun, after_cell, Given, NotFalling, ClosesAt, AtHome, JournalOk, AllJournals, close_in, stamp_of}
 use Rattle.rx_rules.specs.declared.entries.Entry.{Entry}
 use Rattle.rx_rules.specs.declared.events.Cell.{Cell}
 use Rattle.rx_rules.specs.declared.events.PlaceEvent.{PlaceEvent}
@@ -167,9 +167,6 @@ close_is (Some n) j e s h at =
       the_one (suc i) e = absurd (let f : ⊥ = cc in f)
 
 -- Lists of journals.
-
-pub journal_is : (js : List (List PlaceEvent)) (p : ℕ) (j : List PlaceEvent) → slice_get js p ≡ Some j → journal_at js p ≡ j
-journal_is js p j e = ap (λ (o : Option (List PlaceEvent)). elim o as (λ _. List PlaceEvent) [ Some k ↦ k | None ↦ [] ]) e
 
 pub journals_at : (U : Given) (es : List Entry) (p : ℕ) (js : List (List PlaceEvent)) → AllJournals U es p js → (i : ℕ) (j : List PlaceEvent) → slice_get js i ≡ Some j → JournalOk U es (p + i) j
 journals_at U es p [] h i j e = absurd (let f : ⊥ = cc in f)

@@ -17,9 +17,6 @@ use Rattle.rx_verdict.specs.Flaws.{CauseAt, IsSound, IsFirstFlaw}
 use Rattle.rx_verdict.specs.Judged.{MarksTell, MadeMarksTell, IsFirstBad, FlawIsBad, EventsDecide}
 
 module _ (code : Block) (U : Given) (es : List Entry) (js : List (List PlaceEvent)) (ms : List (List Bool)) (tell : MarksTell code U es js ms) where
-  death : ℕ → Option ℕ
-  death p = death_number 0 (record { 0 = p }) es
-
   caused : (p e : ℕ) (o : Option PlaceEvent) → slice_get (journal_at js p) e ≡ o → CauseOf Between code U es js p e o → CauseAt (death_number 0 (record { 0 = p }) es) (row_at ms p) e o
   caused p e None at h = h
   caused p e (Some (Done t s c x)) at h = let m = (tell.made p e t s c x at).0 (subst (CauseOf Between code U es js p e) (sym at) h) in (m, tell.some p e t s c x at m)

@@ -18,7 +18,7 @@ bool_same : (a : Bool) → cond a a (not a) ≡ true
 bool_same true = refl
 bool_same false = refl
 
-both_true : (a b : Bool) → a ≡ true → b ≡ true → (a && b) ≡ true
+pub both_true : (a b : Bool) → a ≡ true → b ≡ true → (a && b) ≡ true
 both_true a b e f = ap (λ (x : Bool). x && b) e ∙ f
 
 int_true : (i j : ℤ) → int_eq i j ≡ true → i ≡ j

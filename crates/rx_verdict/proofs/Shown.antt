@@ -11,20 +11,22 @@ use Rattle.rx_rules.specs.declared.entries.Entry.TheVariants.{Step, Root, Death,
 use Rattle.rx_rules.specs.declared.events.PlaceEvent.{PlaceEvent}
 use Rattle.rx_rules.specs.declared.events.PlaceEvent.TheVariants.{Done, Close}
 use Rattle.rx_rules.proofs.Numbers.{next-made}
-use Rattle.rx_tree_laws.proofs.Births.{from-other, from-here, births-left}
+use Rattle.rx_tree_laws.proofs.Births.{from-other, from-here, births-left, born_before}
 use Rattle.rx_runs.specs.Rooted.{RootIsLast}
 use Rattle.rx_runs.proofs.RootLast.{root_last-ends}
 use Rattle.rx_verdict.specs.declared.verdict.Verdict.TheVariants.{Run}
 use Rattle.rx_verdict.specs.Makes as parts
-use Rattle.rx_verdict.specs.Makes.{Makes, MakesEvent, AnyStamp, Between, Landing, Made, TaskMakes, TaskMakesEvent, EachMakes, cells_of}
+use Rattle.rx_verdict.specs.Makes.{Makes, MakesEvent, Between, Landing, Made, TaskMakes, TaskMakesEvent, EachMakes, cells_of}
 use Rattle.rx_verdict.specs.Verdicts.{Part, IsGood, CauseOf, HasCause, AllGood, IsVerdict, RunIsVerdict, events_before}
 use Rattle.rx_verdict.proofs.Stamps.{cause_any}
 use Rattle.rx_verdict.proofs.Replays.{plays_make, plays_event}
-use Rattle.rx_verdict.proofs.Births.{Has, StartsTask, starts, other_none, other_some, born_before, newborn}
+use Rattle.rx_verdict.proofs.Births.{Has, StartsTask, starts, other_none, other_some, newborn}
 use Rattle.rx_verdict.proofs.Once.{landing_map, made_at}
-use Rattle.rx_verdict.proofs.Journals.{store_take, rising_take, home_at, count_below, shut_of, close_is, journal_is, journals_at}
+use Rattle.rx_verdict.proofs.Journals.{store_take, rising_take, home_at, count_below, shut_of, close_is, journals_at}
 use Rattle.std.proofs.lemmas.Option.{slice_get_past, slice_get_within}
 use Rattle.rx_base.proofs.Elements.{get-within}
+use Rattle.rx_runs.proofs.Pairs.{journal_got}
+use Rattle.rx_kills.proofs.Dying.{length-front}
 
 -- Beginnings of a list of entries.
 
@@ -193,11 +195,6 @@ get_take [] (suc n) i l = refl
 get_take (x ∷ xs) (suc n) zero l = refl
 get_take (x ∷ xs) (suc n) (suc i) l = get_take xs n i (omega arith)
 
-size_take : {X : Type 0} (xs : List X) (n : ℕ) → n ≤ length xs → length (take n xs) ≡ n
-size_take xs zero l = refl
-size_take [] (suc n) l = absurd (omega arith)
-size_take (x ∷ xs) (suc n) l = ap suc (size_take xs n (omega arith))
-
 pub each_makes : (starts : Starts) (es : List Entry) (js : List (List PlaceEvent)) (n : ℕ) (more : Starts) → ((i : ℕ) (s : Term × Vars) → slice_get more i ≡ Some s → TaskMakes starts es js (n + i) s) → EachMakes starts es js n more
 each_makes starts es js n [] h = tt
 each_makes starts es js n (s ∷ more) h =
@@ -247,7 +244,7 @@ module _ (code : Block) (q : ℕ) (es : List Entry) (js : List (List PlaceEvent)
 
   first_task : (t : ℕ) (s : Term × Vars) → slice_get born t ≡ Some s → TaskMakes born first js t s
   first_task t s e =
-      let size : length born ≡ 1 + births first = size_take starting (1 + births first) few_born in
+      let size : length born ≡ 1 + births first = length-front starting (1 + births first) few_born in
       let in_born : t < length born = slice_get_within born t s e in
       let low : t < 1 + births first = omega (arith, size, in_born) in
       let fine : AllAllowed 0 (opening q) first = allowed_take 0 (opening q) es n allowed in
@@ -261,7 +258,7 @@ module _ (code : Block) (q : ℕ) (es : List Entry) (js : List (List PlaceEvent)
   made_first =
       record {
         main = kept 0 (omega arith) ∙ h.main;
-        all = size_take starting (1 + births first) few_born;
+        all = length-front starting (1 + births first) few_born;
         each = each_makes born first js 0 born (λ i s e. let at : i ≡ 0 + i = omega arith in subst (λ (z : ℕ). TaskMakes born first js z s) at (first_task i s e));
       }
 
@@ -326,7 +323,7 @@ module _ (code : Block) (U : Given) (es : List Entry) (js : List (List PlaceEven
   cause p e ok (Close s) at = close_is (death_number 0 (record { 0 = p }) es) (journal_at js p) e s ok.closed at
 
   journal_ok : (p : ℕ) → p < length js → JournalOk U es p (journal_at js p)
-  journal_ok p low = let g = get-within js p low in subst (λ (j : List PlaceEvent). JournalOk U es p j) (sym (journal_is js p g.0 g.1)) (journal p g.0 g.1)
+  journal_ok p low = let g = get-within js p low in subst (λ (j : List PlaceEvent). JournalOk U es p j) (sym (journal_got js p g.0 g.1)) (journal p g.0 g.1)
 
   has_cause : (p e : ℕ) → p < length js → e < length (journal_at js p) → HasCause Between code U es js p e
   has_cause p e low inside =

@@ -59,7 +59,7 @@ use Rattle.rx_verify.proofs.Callers.{born_away, born_here, caller_goes, folds_so
 use Rattle.rx_verify.proofs.AdmitSlots.{Each, SeatRests, away_rests, each_push, rest_push, rest_set, stands_rest}
 use Rattle.rx_verify.proofs.MarksEnd.{asks_ledger}
 use Rattle.rx_verify.proofs.MarksOn.{marks_born_away, marks_born_here, marks_stay}
-use Rattle.rx_verify.proofs.MarksWalk.{births-few}
+use Rattle.rx_runs.proofs.Comings.{births-few}
 
 -- What a census tells.
 

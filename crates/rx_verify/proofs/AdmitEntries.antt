@@ -8,7 +8,7 @@ use Rattle.rx_rules.specs.declared.entries.Act.TheVariants.{At as Calls, Spawn}
 use Rattle.rx_rules.specs.declared.entries.Entry.{Entry}
 use Rattle.rx_rules.specs.declared.entries.Entry.TheVariants.{Step, Root, Death, Join}
 use Rattle.rx_rules.specs.declared.events.PlaceEvent.{PlaceEvent}
-use Rattle.rx_rules.proofs.Append.{act-places, tree-push}
+use Rattle.rx_rules.proofs.Append.{tree-push}
 use Rattle.rx_rules.proofs.Numbers.{next-tree}
 use Rattle.rx_tree_laws.specs.Histories.{FoldReached}
 use Rattle.rx_tree_laws.proofs.Births.{birth-other, births-left}
@@ -22,6 +22,7 @@ use Rattle.rx_verdict.specs.Seats.{Seated}
 use Rattle.rx_verdict.proofs.Births.{actor_below, other_none, other_some, starts}
 use Rattle.rx_verdict.proofs.Parting.{no_birth, no_moves}
 use Rattle.rx_verdict.proofs.Passing.{Stage, newborn_none}
+use Rattle.rx_runs.proofs.Knowing.{made_grows}
 
 -- After more entries a task has the home and the last entry that it had, and no place has gone.
 pub record Keeps (places : ℕ) (es later : List Entry) (u : ℕ) : Type 0 where
@@ -31,14 +32,8 @@ pub record Keeps (places : ℕ) (es later : List Entry) (u : ℕ) : Type 0 where
 
 -- Places.
 
-grown : (n : ℕ) (T : Tree) (e : Entry) → T.places ≤ (made n T e).places
-grown n T (Step t act batch) = let same = act-places T t act in omega (arith, same)
-grown n T (Root lost masked thrown) = omega arith
-grown n T (Death d) = omega arith
-grown n T (Join p) = omega arith
-
 pub places_stay : (places : ℕ) (es : List Entry) (e : Entry) → (tree_of places es).places ≤ (tree_of places (es ++ e ∷ [])).places
-places_stay places es e = subst (λ (T : Tree). (tree_of places es).places ≤ T.places) (sym (tree-push places es e)) (grown (length es) (tree_of places es) e)
+places_stay places es e = subst (λ (T : Tree). (tree_of places es).places ≤ T.places) (sym (tree-push places es e)) (made_grows (length es) (tree_of places es) e)
 
 -- An entry of no task.
 

@@ -34,8 +34,9 @@ use Rattle.rx_verify.specs.Players.{Awaits, IsSeat, SlotIs, PlayersStand, StopsA
 use Rattle.rx_verify.specs.Reaching.{TaskMakesAct, Ready}
 use Rattle.rx_verify.specs.Inside.Admitted.{Stopped, WalksAlong}
 use Rattle.rx_verify.proofs.AdmitPlayers.{lands_only, task_inside, travels_so}
-use Rattle.rx_verify.proofs.MarksEnd.{asks_ledger, asks_store, is_done}
+use Rattle.rx_verify.proofs.MarksEnd.{asks_ledger, asks_store}
 use Rattle.rx_verify.proofs.MarksWalk.{sits}
+use Rattle.rx_plan.proofs.Requests.{asks_end}
 
 -- the entry is the next of its task
 pub next_of_task : (es : List Entry) (i : ℕ) (U : Given) (task : TaskId) (act : Act) (batch : List (List ℕ)) → EntriesToCome → slice_get es i ≡ Some (Step task act batch) → IsNextOf (Some i) (moves_from i (drop i es) task.0)
@@ -113,7 +114,7 @@ module _ (shape : Shape) (code : Block) (U : Given) (es : List Entry) (js : List
       let s = w.1 in
       let p = w.0 in
       let is : IsSeat shape U.places (take i es) js task.0 s.seat.value s.player s.left = p.each task.0 (Here s.seat) (pass.Stands s.player s.left) s.slot s.stands in
-      let d = is_done (next_does s.seat.value.home s.player) s.stops in
+      let d = asks_end (next_does s.seat.value.home s.player) s.stops in
       let there : next_does (home_of (take i es) task.0) s.player ≡ Done d.0 = ap (λ (q : PlaceId). next_does q s.player) (sym is.home) ∙ d.1 in
       other ((ends code U es js i p.seats task act batch s.player s.left d.0 p.seated f s.stands there).1 k).0
   missed new Halted follow asks ends refuses w other k = halted new follow refuses w k

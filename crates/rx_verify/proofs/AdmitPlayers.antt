@@ -41,10 +41,10 @@ use Rattle.rx_verify.specs.Table.{TableIs}
 use Rattle.rx_verify.specs.Inside.Admitted.{Stopped}
 use Rattle.rx_verify.proofs.AdmitEntries.{Keeps, actor_born, others_keep, own_home, own_low, places_stay, quiet_keeps}
 use Rattle.rx_verify.proofs.Callers.{caller_keeps, caller_lands, folds_so, not_by, parents_on}
-use Rattle.rx_verify.proofs.MarksEnd.{is_done}
 use Rattle.rx_verify.proofs.AdmitSlots.{Each, SeatRests, each_set, over_rests, rest_set, slot_keeps, stands_rest}
 use Rattle.rx_verify.proofs.MarksOn.{marks_arrive, marks_end}
 use Rattle.rx_verify.proofs.MarksWalk.{seats-many}
+use Rattle.rx_plan.proofs.Requests.{asks_end}
 
 -- the entries with this one more
 pub one_more : (U : Given) (es : List Entry) (i : ℕ) (e : Entry) → MayFollow U es i e → take (suc i) es ≡ take i es ++ e ∷ []
@@ -242,7 +242,7 @@ module _ (shape : Shape) (code : Block) (U : Given) (es : List Entry) (js : List
 
   -- its faults
   pub ends_with : (faults : List Fault) × (next_does h.stops.seat.value.home z ≡ Done faults)
-  ends_with = is_done (next_does h.stops.seat.value.home z) h.stops.stops
+  ends_with = asks_end (next_does h.stops.seat.value.home z) h.stops.stops
 
   ends_there : next_does (home_of (take i es) task.0) z ≡ Done ends_with.0
   ends_there = ap (λ (p : PlaceId). next_does p z) (sym stopped.home) ∙ ends_with.1

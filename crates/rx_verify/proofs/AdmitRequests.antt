@@ -27,20 +27,18 @@ use Rattle.rx_verify.specs.Stood.{Stood}
 use Rattle.rx_verify.specs.Inside.Requests.{FitsRest, ActIsAsked, IsGranted, AfterPath, AfterWait, AfterAct, AfterRequest}
 use Rattle.rx_verify.proofs.Callers.{same_task}
 use Rattle.rx_tree_laws.specs.TermSteps.{BeginsStatement}
+use Rattle.rx_base.proofs.SameIds.{place-is}
 
 -- An act fits exactly where it is of the kind that is wanted and its rest is right.
 
 abbrev Cut : Want → PlaceId → Term → Does → Act → Type 0
 Cut w here t d act = (Fits here t d act → (wanted w here act ≡ true) × FitsRest t d act) × (wanted w here act ≡ true → FitsRest t d act → Fits here t d act)
 
-same_place : (p q : PlaceId) → p.0 ≡ q.0 → p ≡ q
-same_place p q e = λ i. record { 0 = e i }
-
 -- it is for this place, and from here
 pub sent : (to from here : PlaceId) (place : ℕ) → ((to.0 == place) && (from.0 == here.0)) ≡ true → (to.0 ≡ place) × (from ≡ here)
 sent to from here place h =
     let k = and_parts (to.0 == place) (from.0 == here.0) h in
-    (eqb-true to.0 place k.0, same_place from here (eqb-true from.0 here.0 k.1))
+    (eqb-true to.0 place k.0, place-is from here (eqb-true from.0 here.0 k.1))
 
 is_sent : (to from here : PlaceId) (place : ℕ) → to.0 ≡ place → from ≡ here → ((to.0 == place) && (from.0 == here.0)) ≡ true
 is_sent to from here place e f = both_true (eq-eqb to.0 place e) (eq-eqb from.0 here.0 (ap (λ (p : PlaceId). p.0) f))
@@ -99,10 +97,6 @@ fits_cut here t (Done faults) act w e = absurd (let f : ⊥ = cc in f)
 pub untold : (d : Does) (act : Act) (vars : Vars) → ((n : ℕ) (x : List ℕ) → act ≡ Census n x → ⊥) → vars_told d act vars ≡ vars
 untold (Counts name) (Census n x) vars h = absurd (h n x refl)
 untold d act vars h = refl
-
-pub wants_census : (w : Want) (here : PlaceId) (n : ℕ) (x : List ℕ) → wanted w here (Census n x) ≡ true → w ≡ want.Census
-wants_census want.Census here n x h = refl
-wants_census w here n x h = absurd (true≢false (sym h))
 
 pub wants_wait : (w : Want) (here : PlaceId) (s : ScopeId) (thrown : List Fault) → wanted w here (Wait s thrown) ≡ true → w ≡ want.Wait
 wants_wait want.Wait here s thrown h = refl
@@ -197,8 +191,3 @@ pub told_wait : (here : PlaceId) (d : Does) (act : Act) (s : ScopeId) (thrown : 
 told_wait here d act s thrown is a =
     let w : a.0 ≡ want.Wait = wants_wait a.0 here s thrown (ap (λ (v : Act). wanted a.0 here v) (sym is) ∙ a.2) in
     asks_wait d (a.1 ∙ ap (λ (v : Want). Book v) w)
-
--- where it is a census, the term counts
-pub told_census : (here : PlaceId) (d : Does) (act : Act) (n : ℕ) (x : List ℕ) → act ≡ Census n x → ActIsAsked here d act → next_of d ≡ Book want.Census
-told_census here d act n x is a =
-    a.1 ∙ ap (λ (v : Want). Book v) (wants_census a.0 here n x (ap (λ (v : Act). wanted a.0 here v) (sym is) ∙ a.2))

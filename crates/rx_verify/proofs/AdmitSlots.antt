@@ -17,7 +17,8 @@ use Rattle.rx_verify.specs.declared.players.Slot.{Slot}
 use Rattle.rx_verify.specs.declared.players.Slot.TheVariants.{Away, Here, Over}
 use Rattle.rx_verify.specs.Players.{IsSeat, SlotIs, Rests}
 use Rattle.rx_verify.proofs.AdmitEntries.{Keeps}
-use Rattle.rx_verify.proofs.MarksOn.{get_other, get_below}
+use Rattle.rx_verify.proofs.MarksOn.{get_other}
+use Rattle.rx_runs.proofs.Fitting.{get_left}
 
 -- each slot with its seat of the pass
 abbrev pub Each : (ℕ → Slot → pass.Seat → Type 0) → List Slot → List pass.Seat → Type 0
@@ -42,7 +43,7 @@ each_set P Q slots seats t slot x low inside others own each u s y a b = ⊎_eli
 pub each_push : (Q : ℕ → Slot → pass.Seat → Type 0) (slots : List Slot) (seats : List pass.Seat) (slot : Slot) (x : pass.Seat) → length slots ≡ length seats → Q (length slots) slot x → Each Q slots seats → Each Q (slots ++ slot ∷ []) (seats ++ x ∷ [])
 each_push Q slots seats slot x size own each u s y a b = ⊎_elim old new (cases_lt u (length slots)) where
   old : u < length slots → Q u s y
-  old low = each u s y (sym (get_below slots (slot ∷ []) u low) ∙ a) (sym (get_below seats (x ∷ []) u (omega (arith, low, size))) ∙ b)
+  old low = each u s y (sym (get_left slots (slot ∷ []) u low) ∙ a) (sym (get_left seats (x ∷ []) u (omega (arith, low, size))) ∙ b)
 
   new : length slots ≤ u → Q u s y
   new past =
@@ -72,7 +73,7 @@ rest_set seats t x low others own u z left at = ⊎_elim here away (cases_eq u t
 pub rest_push : (seats : List pass.Seat) (x : pass.Seat) → ((u : ℕ) → Rests seats u) → SeatRests x → (u : ℕ) → Rests (seats ++ x ∷ []) u
 rest_push seats x all own u z left at = ⊎_elim old new (cases_lt u (length seats)) where
   old : u < length seats → z.batch ≡ []
-  old low = all u z left (sym (get_below seats (x ∷ []) u low) ∙ at)
+  old low = all u z left (sym (get_left seats (x ∷ []) u low) ∙ at)
 
   new : length seats ≤ u → z.batch ≡ []
   new past =

@@ -38,9 +38,6 @@ module _ {L : Type 0} (stands : L → ℕ → Tree → Type 0) (U : Given) (es :
   pub in_time : (e : Entry) → InTime (length es) xs e → InTime (length es) (plan_left (plan_of U) es) e
   in_time e h = subst (λ (ys : List Event). InTime (length es) ys e) k.left h
 
-  pub in_time_back : (e : Entry) → InTime (length es) (plan_left (plan_of U) es) e → InTime (length es) xs e
-  in_time_back e h = subst (λ (ys : List Event). InTime (length es) ys e) (sym k.left) h
-
   pub stepped : (t : TaskId) (act : Act) (batch : List (List ℕ)) (l' : L) → NoneDue (length es) xs → AllowedAct T t act → stands l' (left_to_join U es) (made_act T t act) → LedgerIs stands U (es ++ Step t act batch ∷ []) l' xs false
   stepped t act batch l' free may stood =
       let same = tree-push U.places es (Step t act batch) in

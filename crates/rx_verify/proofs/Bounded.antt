@@ -4,7 +4,7 @@ use Rattle.rx_rules.proofs.Common.{PlaceId, Block, work, Term, Vars, does, Cells
 use Rattle.rx_rules.specs.declared.entries.Act.TheVariants.{Open, At as Calls, Spawn, Arrive, Wait, Release, End, Print, Census}
 use Rattle.rx_rules.specs.declared.entries.Entry.{Entry}
 use Rattle.rx_rules.specs.declared.events.PlaceEvent.{PlaceEvent}
-use Rattle.rx_runs.proofs.Paying.{tells_store}
+use Rattle.rx_runs.proofs.Weighing.{tells_store}
 use Rattle.rx_runs.specs.AnyAnswers.{Works, local, answers, asks, ends, stops, BeginsWork, EachWorks, MadeIn, MadeBounded, sum_of}
 use Rattle.rx_verdict.specs.Makes as makes
 use Rattle.rx_verdict.specs.Makes.{Makes, Made, Landing, EachMakes, cells_of}

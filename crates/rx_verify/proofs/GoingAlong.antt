@@ -1,17 +1,12 @@
 -- The statements that were begun so far beside a batch, where one more is begun.
-use Rattle.std.proofs.Common.{◌≡◌, ℕ, zero, suc, ◌+◌, ◌<◌, Bool, true, false, List, [], ◌∷◌, ◌++◌, length, take, Option, Some, None, slice_get, refl, ap, sym, ◌∙◌, arith, append_assoc, append-nil}
+use Rattle.std.proofs.Common.{◌≡◌, ℕ, suc, ◌+◌, ◌<◌, Bool, true, false, List, [], ◌∷◌, ◌++◌, length, take, Option, Some, None, slice_get, refl, ap, sym, ◌∙◌, arith, append_assoc, append-nil}
 use Rattle.std.proofs.lemmas.Bool.{true≢false}
 use Rattle.std.proofs.lemmas.List.{length-take-le}
 use Rattle.rx_base.proofs.Elements.{get-last, get-more}
 use Rattle.rx_rules.proofs.Common.{begun, Term, begins}
 use Rattle.rx_verify.specs.declared.along.Along.{Along}
 use Rattle.rx_verify.specs.Along.{GoesAlong}
-
--- the front with the item behind it
-take_more : {A : Type 0} (xs : List A) (n : ℕ) (x : A) → slice_get xs n ≡ Some x → take (suc n) xs ≡ take n xs ++ x ∷ []
-take_more [] n x h = absurd (let f : ⊥ = cc in f)
-take_more (y ∷ ys) zero x h = (let same : y ≡ x = cc in ap (λ z. z ∷ []) same)
-take_more (y ∷ ys) (suc n) x h = ap (λ l. y ∷ l) (take_more ys n x h)
+use Rattle.rx_kills.proofs.Dying.{take-next}
 
 -- behind a front and an item
 behind : {A : Type 0} (xs ys more : List A) (x : A) (n : ℕ) → length xs ≡ n → ys ≡ (xs ++ x ∷ []) ++ more → slice_get ys n ≡ Some x
@@ -30,7 +25,7 @@ module _ (batch so_far : List (List ℕ)) (a : Along) (g : GoesAlong batch a so_
       record {
         paths = g.paths;
         few = omega (arith, inside, long);
-        same = λ t. ap (λ (l : List (List ℕ)). l ++ x ∷ []) (g.same s) ∙ (sym (take_more batch a.count x here) ∙ ap (λ (n : ℕ). take n batch) next);
+        same = λ t. ap (λ (l : List (List ℕ)). l ++ x ∷ []) (g.same s) ∙ (sym (take-next batch a.count x here) ∙ ap (λ (n : ℕ). take n batch) next);
         other = λ f. absurd (true≢false (sym s ∙ f));
       }
 
@@ -58,10 +53,6 @@ module _ (batch so_far : List (List ℕ)) (a : Along) (g : GoesAlong batch a so_
         let same : length batch ≡ length so_far = ap (λ (l : List (List ℕ)). length l) e in
         let many = size s in
         (s, omega (arith, long, same, many))
-
--- what a step begins
-pub begun_some : (t : Term) (so_far : List (List ℕ)) (x : List ℕ) → begins t ≡ Some x → begun t so_far ≡ so_far ++ x ∷ []
-begun_some t so_far x b = ap (λ (o : Option (List ℕ)). elim o as (λ _. List (List ℕ)) [ Some w ↦ so_far ++ w ∷ [] | None ↦ so_far ]) b
 
 pub begun_none : (t : Term) (so_far : List (List ℕ)) → begins t ≡ None → begun t so_far ≡ so_far
 begun_none t so_far b = ap (λ (o : Option (List ℕ)). elim o as (λ _. List (List ℕ)) [ Some w ↦ so_far ++ w ∷ [] | None ↦ so_far ]) b

@@ -4,7 +4,7 @@ use Rattle.std.specs.Global.{Box}
 use Rattle.std.proofs.lemmas.Bool.{cases_eq, true≢false}
 use Rattle.std.proofs.lemmas.List.{take_all}
 use Rattle.std.proofs.lemmas.Option.{slice_get_within}
-use Rattle.rx_rules.proofs.Common.{PlaceId, TaskId, Fault, Block, Player, Cells, moves_from, journal_at, Given, Term, Vars, Does, Local, Makes, Gets, Puts, Forgets, Opens, Calls, Spawns, Waits, Releases, Prints, Counts, Done}
+use Rattle.rx_rules.proofs.Common.{PlaceId, TaskId, Block, Player, Cells, moves_from, journal_at, Given, Term, Vars, Does, Local, Makes, Gets, Puts, Forgets, Opens, Calls, Spawns, Waits, Releases, Prints, Counts, Done}
 use Rattle.rx_base.proofs.Elements.{get-within}
 use Rattle.rx_rules.specs.declared.entries.Entry.{Entry}
 use Rattle.rx_rules.specs.declared.events.Cell.{Cell}
@@ -13,7 +13,7 @@ use Rattle.rx_runs.specs.AnyAnswers.{AsksStore}
 use Rattle.rx_syntax.specs.Shape.{Shape}
 use Rattle.rx_history.specs.declared.step.CellOp.{CellOp}
 use Rattle.rx_history.specs.declared.step.Want.{Want}
-use Rattle.rx_history.specs.declared.step.Next.TheVariants.{Cell as CellStep, Book, Done as Ended}
+use Rattle.rx_history.specs.declared.step.Next.TheVariants.{Cell as CellStep, Book}
 use Rattle.rx_history.specs.Next.{next_of}
 use Rattle.rx_verdict.specs.Makes.{Between}
 use Rattle.rx_verdict.specs.Marks.{home_of, StandsAt, WholePass, AwayEvent}
@@ -34,6 +34,7 @@ use Rattle.rx_verify.specs.Players.{IsSeat, SlotIs, PlayersStand, StopsAt}
 use Rattle.rx_verify.specs.Stood.{Stops}
 use Rattle.rx_verify.proofs.MarksOn.{IsEvent, Of, of_task, all_used}
 use Rattle.rx_verify.proofs.MarksWalk.{sits, seats-many}
+use Rattle.rx_plan.proofs.Requests.{asks_end}
 
 -- Where a walk stops.
 
@@ -51,21 +52,6 @@ asks_ledger Releases asked e = tt
 asks_ledger (Prints value) asked e = tt
 asks_ledger (Counts name) asked e = tt
 asks_ledger (Done faults) asked e = absurd (let f : ⊥ = cc in f)
-
-pub is_done : (d : Does) → next_of d ≡ Ended → (faults : List Fault) × (d ≡ Done faults)
-is_done (Local left vars) e = cc
-is_done (Makes name words) e = cc
-is_done (Gets name target index) e = cc
-is_done (Puts target index value) e = cc
-is_done (Forgets target) e = cc
-is_done Opens e = cc
-is_done (Calls place) e = cc
-is_done (Spawns place) e = cc
-is_done (Waits faults) e = cc
-is_done Releases e = cc
-is_done (Prints value) e = cc
-is_done (Counts name) e = cc
-is_done (Done faults) e = (faults, refl)
 
 pub asks_store : (d : Does) (op : CellOp) → next_of d ≡ CellStep op → AsksStore d
 asks_store (Local left vars) op e = absurd (let f : ⊥ = cc in f)
@@ -85,7 +71,7 @@ asks_store (Done faults) op e = absurd (let f : ⊥ = cc in f)
 -- with no entry to come the task goes on no more
 stuck_at : (stop : Stop) (seat : Seat) (es : List Entry) (i t : ℕ) (y : Player) (rest : Cells) → seat.home ≡ home_of (take i es) t → moves_from i (drop i es) t ≡ [] → Stops stop seat y rest → IsStuck es i t y rest
 stuck_at (Asks asked) seat es i t y rest home none s = inr (inr (subst (λ (p : PlaceId). AsksLedger (next_does p y)) home (asks_ledger (next_does seat.home y) asked s), none))
-stuck_at Ends seat es i t y rest home none s = inl (let d = is_done (next_does seat.home y) s in (d.0, subst (λ (p : PlaceId). next_does p y ≡ Done d.0) home d.1))
+stuck_at Ends seat es i t y rest home none s = inl (let d = asks_end (next_does seat.home y) s in (d.0, subst (λ (p : PlaceId). next_does p y ≡ Done d.0) home d.1))
 stuck_at Halted seat es i t y rest home none s =
     inr (inl (subst (λ (p : PlaceId). AsksStore (next_does p y)) home (asks_store (next_does seat.home y) s.0.0 s.0.1), subst (λ (p : PlaceId). Halts p y rest) home s.1))
 

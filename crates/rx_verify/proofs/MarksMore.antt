@@ -6,7 +6,7 @@ use Rattle.rx_rules.proofs.Common.{TaskId, cell_of, journal_at}
 use Rattle.rx_rules.specs.declared.events.Cell.{Cell}
 use Rattle.rx_rules.specs.declared.events.PlaceEvent.{PlaceEvent}
 use Rattle.rx_rules.specs.declared.events.PlaceEvent.TheVariants.{Done}
-use Rattle.rx_verdict.specs.Marked.{marked, HasShape}
+use Rattle.rx_verdict.specs.Marked.{marked}
 use Rattle.rx_verify.specs.Events.{IsOf, IsFirst}
 use Rattle.rx_verify.specs.Marked.{InReach, MarksUsed}
 use Rattle.rx_verify.proofs.Positions.{at_most_length}
@@ -48,15 +48,6 @@ goes_on t j at next first lt =
 -- Marks.
 
 module _ (js : List (List PlaceEvent)) (p t low : ℕ) (last : Option ℕ) where
-  -- none yet
-  pub none_used : (ms : List (List Bool)) (from : ℕ) → HasShape js ms → MarksUsed js ms ms p t from from low last
-  none_used ms from shape =
-      record {
-        shape = shape;
-        mine = λ e stamp cell path le lt told k. absurd (omega (arith, le, lt));
-        others = λ q e task stamp cell path told other. refl;
-      }
-
   -- one event more, after which none stands up to the next
   pub one_used : (old mid new : List (List Bool)) (from at next : ℕ) → from ≤ at → at < next → IsFirst t (journal_at js p) (suc at) next → MarksUsed js old mid p t from at low last → MarksUsed js mid new p t at (at + 1) low last → MarksUsed js old new p t from next low last
   one_used old mid new from at next past onward first a b = record { shape = b.shape; mine = mine; others = others } where

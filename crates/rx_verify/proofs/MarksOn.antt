@@ -25,6 +25,7 @@ use Rattle.rx_verify.specs.Events.{IsFirst}
 use Rattle.rx_verify.specs.Marked.{IsLeft, MarksAre}
 use Rattle.rx_verify.specs.Players.{IsSeat}
 use Rattle.rx_verify.proofs.Using.{none_between}
+use Rattle.rx_runs.proofs.Fitting.{get_left}
 
 -- Lists of slots.
 
@@ -35,18 +36,9 @@ get_other (y ∷ ys) zero (suc i) x ne = refl
 get_other (y ∷ ys) (suc k) zero x ne = refl
 get_other (y ∷ ys) (suc k) (suc i) x ne = get_other ys k i x (λ e. ne (ap suc e))
 
-pub get_below : {X : Type 0} (xs ys : List X) (i : ℕ) → i < length xs → slice_get (xs ++ ys) i ≡ slice_get xs i
-get_below [] ys i lt = absurd (omega (arith, lt))
-get_below (x ∷ xs) ys zero lt = refl
-get_below (x ∷ xs) ys (suc i) lt = get_below xs ys i (omega (arith, lt))
-
 -- what stands at a position is an event of a task
 abbrev pub IsEvent : List (List PlaceEvent) → ℕ → ℕ → TaskId → ℕ → Cell → List ℕ → Type 0
 IsEvent js p e task stamp cell path = slice_get (journal_at js p) e ≡ Some (Done task stamp cell path)
-
--- it is the same task's by the number
-pub same_task : (js : List (List PlaceEvent)) (p e t : ℕ) (task : TaskId) (stamp : ℕ) (cell : Cell) (path : List ℕ) → task.0 ≡ t → IsEvent js p e task stamp cell path → IsEvent js p e (record { 0 = t }) stamp cell path
-same_task js p e t task stamp cell path same at = subst (λ (n : ℕ). IsEvent js p e (record { 0 = n }) stamp cell path) same at
 
 -- What the marks of other slots say stays. What is left of task t's events and what is used are premises.
 abbrev MoreLeft : List (List PlaceEvent) → ℕ → Option Slot → Option Slot → Type 0
@@ -102,7 +94,7 @@ module _ (code : Block) (U : Given) (es : List Entry) (js : List (List PlaceEven
           | inr ne ↦
               elim (leb_tells (length slots) u) as (λ _. Of u (slice_get (slots ++ y ∷ []) u)) [
                 | inl le ↦ subst (λ (s : Option Slot). Of u s) (sym (past u ne le.1)) (of_task slots u m)
-                | inr lt ↦ subst (λ (s : Option Slot). Of u s) (sym (get_below slots (y ∷ []) u lt.1)) (of_task slots u m)
+                | inr lt ↦ subst (λ (s : Option Slot). Of u s) (sym (get_left slots (y ∷ []) u lt.1)) (of_task slots u m)
               ]
         ]
 

@@ -1,16 +1,13 @@
 -- The marks and the players after a walk of one task.
-use Rattle.std.proofs.Common.{◌≡◌, ◌≢◌, ◌↔◌, ℕ, suc, ◌+◌, ◌<◌, ◌≤◌, Bool, true, false, List, [], ◌∷◌, length, take, drop, Option, Some, None, slice_get, slice_set, refl, ap, sym, subst, ◌∙◌, arith, inl, inr}
+use Rattle.std.proofs.Common.{◌≡◌, ◌≢◌, ◌↔◌, ℕ, suc, ◌+◌, ◌<◌, ◌≤◌, Bool, true, false, List, [], length, take, drop, Option, Some, None, slice_get, slice_set, ap, sym, subst, ◌∙◌, arith, inl, inr}
 use Rattle.std.specs.Global.{Box}
 use Rattle.std.proofs.lemmas.Bool.{cases_eq}
 use Rattle.std.proofs.lemmas.Bool.Decides.{leb_tells}
 use Rattle.std.proofs.lemmas.List.{length-take, length-set}
-use Rattle.std.proofs.lemmas.List.Sums.{sum_by-cons}
 use Rattle.std.proofs.lemmas.Option.{slice_get_within}
-use Rattle.rx_rules.proofs.Common.{PlaceId, TaskId, Block, births, births_of, Player, Cells, Moves, journal_at, moves_from, Given}
+use Rattle.rx_rules.proofs.Common.{PlaceId, TaskId, Block, births, Player, Cells, Moves, journal_at, moves_from, Given}
 use Rattle.rx_base.proofs.Elements.{get-within, get-set}
-use Rattle.rx_rules.specs.declared.entries.Act.TheVariants.{Open, At as Calls, Spawn, Arrive, Wait, Release, End, Print, Census}
 use Rattle.rx_rules.specs.declared.entries.Entry.{Entry}
-use Rattle.rx_rules.specs.declared.entries.Entry.TheVariants.{Step, Root, Death, Join}
 use Rattle.rx_rules.specs.declared.events.Cell.{Cell}
 use Rattle.rx_rules.specs.declared.events.PlaceEvent.{PlaceEvent}
 use Rattle.rx_runs.proofs.Pairs.{pairs-length}
@@ -45,30 +42,9 @@ use Rattle.rx_verify.proofs.Callers.{caller_walks}
 use Rattle.rx_verify.proofs.Positions.{at_most_length}
 use Rattle.rx_verify.proofs.MarksOn.{IsEvent, Of, of_task, of_all, get_other, left_events}
 use Rattle.rx_verify.proofs.Using.{IsExact, from_here, used_exactly}
+use Rattle.rx_runs.proofs.Comings.{births-few}
 
 -- How many tasks there are.
-
-birth-few : (e : Entry) → births_of e ≤ 1
-birth-few (Step t (Open s r x) batch) = omega arith
-birth-few (Step t (Calls from to s r c x) batch) = omega arith
-birth-few (Step t (Spawn c s from to x) batch) = omega arith
-birth-few (Step t (Arrive p) batch) = omega arith
-birth-few (Step t (Wait s thrown) batch) = omega arith
-birth-few (Step t (Release s lost masked thrown) batch) = omega arith
-birth-few (Step t (End thrown) batch) = omega arith
-birth-few (Step t (Print value x) batch) = omega arith
-birth-few (Step t (Census count x) batch) = omega arith
-birth-few (Root lost masked thrown) = omega arith
-birth-few (Death d) = omega arith
-birth-few (Join d) = omega arith
-
-pub births-few : (es : List Entry) → births es ≤ length es
-births-few [] = let none : births [] ≡ 0 = refl in omega (arith, none)
-births-few (e ∷ es) =
-    let sum : births (e ∷ es) ≡ births_of e + births es = sum_by-cons births_of e es in
-    let one = birth-few e in
-    let rest = births-few es in
-    omega (arith, sum, one, rest)
 
 pub seats-many : (code : Block) (U : Given) (es : List Entry) (js : List (List PlaceEvent)) (seats : List pass.Seat) → Seated code U es js seats → length seats ≡ 1 + births es
 seats-many code U es js seats s = sym (pairs-length (SeatIs s.starts es js) 0 s.starts seats s.each) ∙ s.made.all

@@ -146,8 +146,3 @@ module _ {L : Type 0} (stands : L → ℕ → Tree → Type 0) (shape : Shape) (
       pub made_answer : {E : Type 0} → SeatsTell → (code : Block) → Stands shape code → (a' : Audit L) (ps' : Players) (r : Result Bool E) → AdmittingOf stands a a' who act true → IfOk r (IsMade shape i mid ps' task act) → IfOk r (AfterEntry stands shape U es js i a' ps')
       made_answer tell code st a' ps' (Ok b) admits h = made tell code st a' ps' b admits h
       made_answer tell code st a' ps' (Err x) admits h = tt
-
--- what follows from the answer
-pub ok_as : {A E : Type 0} (r : Result A E) (P Q : A → Type 0) → IfOk r P → ((x : A) → P x → Q x) → IfOk r Q
-ok_as (Ok x) P Q h f = f x h
-ok_as (Err x) P Q h f = tt

@@ -34,7 +34,7 @@ use Rattle.rx_verify.proofs.AdmitAsked.{asks_only}
 use Rattle.rx_verify.proofs.AdmitPlayers.{ends_only}
 use Rattle.rx_verify.proofs.AdmitRequests.{fits_cut, sent}
 use Rattle.rx_verify.proofs.Callers.{folds_so, may_ask}
-use Rattle.rx_verify.proofs.MarksEnd.{is_done}
+use Rattle.rx_plan.proofs.Requests.{asks_end}
 
 -- The act for which the ledger may be asked, where the next step may be.
 
@@ -167,7 +167,7 @@ module _ (shape : Shape) (code : Block) (U : Given) (es : List Entry) (js : List
   may_act : (T : Tree) (who : Caller) (stop : Stop) (h : Stopped shape code U es js i ps task act batch stop) → right stop h.stops.seat.value.home act ≡ true → MayAskNext T who (next_does h.stops.seat.value.home h.stops.player) → MayAskAct T who act
   may_act T who (Asks w) h e m = of_want T who h.stops.seat.value.home (next_does h.stops.seat.value.home h.stops.player) act w h.stops.stops e m
   may_act T who Ends h e m =
-      let d = is_done (next_does h.stops.seat.value.home h.stops.player) h.stops.stops in
+      let d = asks_end (next_does h.stops.seat.value.home h.stops.player) h.stops.stops in
       of_end T who h.stops.seat.value.home act e (subst (λ (z : Does). MayAskNext T who z) d.1 m)
   may_act T who Halts h e m = absurd (true≢false (sym e))
 

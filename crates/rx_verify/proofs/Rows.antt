@@ -15,8 +15,8 @@ use Rattle.rx_verify.specs.declared.table.EventTable.{EventTable}
 use Rattle.rx_verify.specs.declared.table.Row.{Row}
 use Rattle.rx_verify.specs.Table.{TableIs, row_first, row_after}
 use Rattle.rx_verify.specs.Inside.Rows.{RowFrom, RowIs}
-use Rattle.rx_verdict.proofs.EventsOfJournals.{journal-is}
 use Rattle.rx_verify.proofs.Following.{past_event, none_past}
+use Rattle.rx_runs.proofs.Pairs.{journal_got}
 
 -- an event of another task
 other_task : (t : ℕ) (u : TaskId) (stamp : ℕ) (cell : Cell) (path : List ℕ) → (u.0 ≡ t → ⊥) → cell_of t (Done u stamp cell path) ≡ None
@@ -158,7 +158,7 @@ rows_more js tasks rows j row before at is p one there = by (last_or_before rows
   by : ((p ≡ length rows) × (row ≡ one)) ⊎ (slice_get rows p ≡ Some one) → RowIs (journal_at js p) tasks one
   by (inr h) = before p one h
   by (inl h) =
-      let here : journal_at js p ≡ j = journal-is js p j (ap (λ (n : ℕ). slice_get js n) h.0 ∙ at) in
+      let here : journal_at js p ≡ j = journal_got js p j (ap (λ (n : ℕ). slice_get js n) h.0 ∙ at) in
       subst (λ (k : List PlaceEvent). RowIs k tasks one) (sym here) (subst (λ (r : Row). RowIs j tasks r) h.1 is)
 
 -- no journal, and no row

@@ -1,5 +1,5 @@
 -- The event tells the call an answer.
-use Rattle.std.proofs.Common.{◌≡◌, ℕ, ℤ, Bool, true, false, cond, ◌&&◌, ◌==◌, refl, ap, sym, subst, ◌∙◌}
+use Rattle.std.proofs.Common.{◌≡◌, ℕ, ℤ, true, false, cond, ◌&&◌, ◌==◌, refl, ap, sym, subst}
 use Rattle.std.specs.Ordering.{int_eq}
 use Rattle.std.proofs.lemmas.Bool.{and_parts, eqb-true, eq-eqb, true≢false}
 use Rattle.std.proofs.lemmas.Bool.Decides.{Decides-int_eq}
@@ -9,9 +9,7 @@ use Rattle.rx_rules.specs.declared.events.Cell.TheVariants.{Make, MakeFull, Get,
 use Rattle.rx_history.specs.declared.step.CellOp.{CellOp}
 use Rattle.rx_history.specs.declared.step.CellOp.TheVariants.{Make as Makes, Get as Gets, Put as Puts, Forget as Forgets}
 use Rattle.rx_verify.specs.Answers.{same_ref, answers, AnswersTells}
-
-both_true : (a b : Bool) → a ≡ true → b ≡ true → (a && b) ≡ true
-both_true a b e f = ap (λ (x : Bool). x && b) e ∙ f
+use Rattle.rx_verdict.proofs.Same.{both_true}
 
 ref_true : (r q : GlobalRef) → same_ref r q ≡ true → r ≡ q
 ref_true r q h =

@@ -3,7 +3,7 @@ use Rattle.std.proofs.Common.{◌≡◌, ℕ, zero, suc, ◌+◌, ◌<◌, ◌�
 use Rattle.std.specs.List.{filter_map}
 use Rattle.std.proofs.lemmas.Option.{slice_get_within}
 use Rattle.std.proofs.lemmas.Bool.{true≢false}
-use Rattle.rx_rules.proofs.Common.{PlaceId, Value, Fault, TaskId, Term, Vars, Does, Local, Makes as Creates, Gets as Reading, Puts as Writing, Forgets as Freeing, Opens, Calls as Asks, Spawns, Waits, Releases, Prints, Counts, Done, does, begins, receives, answered, answer_of, vars_after, Answer, Gives, Fine, Fails, Cells, begun, cell_of, journal_at, Player}
+use Rattle.rx_rules.proofs.Common.{PlaceId, Value, Fault, TaskId, Term, Vars, Does, Local, Makes as Creates, Gets as Reading, Puts as Writing, Forgets as Freeing, Opens, Calls as Asks, Spawns, Waits, Releases, Prints, Counts, Done, does, begins, receives, answered, answer_of, vars_after, Answer, Cells, begun, cell_of, journal_at, Player}
 use Rattle.rx_rules.specs.declared.events.Cell.{Cell}
 use Rattle.rx_base.proofs.SameIds.{task-is}
 use Rattle.rx_rules.specs.declared.events.PlaceEvent.{PlaceEvent}
@@ -28,14 +28,14 @@ use Rattle.rx_verify.specs.Events.{IsFirst, IsOf}
 use Rattle.rx_verify.specs.Along.{GoesAlong}
 use Rattle.rx_verify.specs.Stood.{Stood, Walked}
 use Rattle.rx_verify.specs.Inside.Steps.{GoesFurther}
-use Rattle.rx_tree_laws.proofs.Beginning.{begins-so}
+use Rattle.rx_tree_laws.proofs.Beginning.{begins-so, begun_one}
 use Rattle.rx_tree_laws.specs.TermSteps.{BeginsStatement}
 use Rattle.rx_tree_laws.proofs.Receiving.{call-so}
 use Rattle.rx_tree_laws.specs.TermSteps.{CallSo}
 use Rattle.rx_verify.proofs.Following.{none_past, here_event}
-use Rattle.rx_verify.proofs.GoingAlong.{begun_some}
 use Rattle.rx_verify.proofs.Rows.{told_of}
 use Rattle.rx_verify.proofs.Telling.{answers_tells}
+use Rattle.rx_runs.proofs.Knowing.{answer_knows}
 
 -- where no step is made
 pub no_walk : (shape : Shape) (js : List (List PlaceEvent)) (seat : Seat) (z : Player) (left : Cells) → Stood shape js seat z left → Walked shape js seat seat z left z left
@@ -99,12 +99,6 @@ store_call t here op (Done faults) e b c k = absurd (let f : ⊥ = cc in f)
 pub is_store_call : (here : PlaceId) (z : Player) (op : CellOp) → TermSinks → next_of (next_does here z) ≡ Calls op → StoreCall z.term (next_does here z)
 is_store_call here z op sinks e = store_call z.term here.0 op (next_does here z) e (begins-so z.vars here.0 z.term) (call-so z.vars here.0 z.term) (sinks z.vars here.0 z.term)
 
--- an answer leaves how many places a task knows
-places_stay : (a : Answer) (v : Vars) → (vars_after a v).places ≡ v.places
-places_stay (Gives name value) v = refl
-places_stay Fine v = refl
-places_stay (Fails fault) v = refl
-
 -- The task's next event answers its call.
 pub walked_store : (shape : Shape) (js : List (List PlaceEvent)) (old new : Seat) (was along : Along) (z : Player) (left rest : Cells) (op : CellOp) (x path : List ℕ) (stamp : ℕ) (cell : Cell) (answer : Result (Option Value) Fault) → TermSinks → Stood shape js old z left → next_of (next_does old.home z) ≡ Calls op → begins z.term ≡ Some x → left ≡ (stamp, cell, path) ∷ rest → x ≡ path → CallIsTold old.home op answer cell → StandsFor shape new.control (answered (answer_of (receives z.term) answer) z.term) → new.control.vars ≡ vars_after (answer_of (receives z.term) answer) old.control.vars → ((batch so_far : List (List ℕ)) → GoesAlong batch was so_far → GoesAlong batch along (so_far ++ path ∷ [])) → new.who ≡ old.who → new.home ≡ old.home → new.low ≡ old.low → filter_map (cell_of new.who.task.0) (drop new.position (journal_at js new.home.0)) ≡ rest → IsFirst new.who.task.0 (journal_at js new.home.0) new.position new.position → GoesFurther shape js old new was along z left
 walked_store shape js old new was along z left rest op x path stamp cell answer sinks s e b events same told term vars goes who home low more first =
@@ -113,8 +107,8 @@ walked_store shape js old new was along z left rest op x path stamp cell answer 
     let falls : steps (answered a z.term) + 1 ≤ steps z.term = is.sinks a in
     let few = s.few in
     let y : Player = record { term = answered a z.term; vars = vars_after a z.vars; batch = begun z.term z.batch } in
-    let known : (vars_after a z.vars).places ≡ z.vars.places = places_stay a z.vars in
-    let noted : begun z.term z.batch ≡ z.batch ++ path ∷ [] = begun_some z.term z.batch path (b ∙ ap (λ (w : List ℕ). Some w) same) in (
+    let known : (vars_after a z.vars).places ≡ z.vars.places = answer_knows a z.vars in
+    let noted : begun z.term z.batch ≡ z.batch ++ path ∷ [] = begun_one z.term z.batch path (b ∙ ap (λ (w : List ℕ). Some w) same) in (
       y,
       rest,
       record {

@@ -19,5 +19,5 @@ returns c =
     (six-texts c.args.out.now.items (codes "rx10 trace 2\n") (setup_lines (given c.args.h.now.setup)) (codes "history\n")
     (entry_lines 0 c.args.h.now.entries) (journals_lines 0 (events_of c.args.j.now)) (codes "done\n")
     c.put_text.new.out.items c.put_setup.new.out.items c.put_text-2.new.out.items c.put_entries.new.out.items c.put_journals.new.out.items c.put_text-3.new.out.items
-    c.in_ok-put_text.ensures written c.in_ok-put_text-2.ensures c.in_ok-put_entries.ensures c.in_ok-put_journals.ensures)
-    c.put_text-3.ensures
+    c.in_ok-put_text.ensures.ok written c.in_ok-put_text-2.ensures.ok c.in_ok-put_entries.ensures c.in_ok-put_journals.ensures)
+    c.put_text-3.ensures.ok

@@ -4,9 +4,10 @@ use Rattle.rx_history.specs.Logs.{Log}
 use Rattle.rx_history.specs.Events.{events_of}
 use Rattle.rx_verdict.specs.Marked.{row_at}
 use Rattle.rx_verdict.specs.Flaws.{IsSound, IsFirstIn}
-use Rattle.rx_verdict.proofs.EventsOfJournals.{events-at, journal-is}
+use Rattle.rx_verdict.proofs.EventsOfJournals.{events-at}
 use Rattle.rx_verdict.proofs.OneJournal.{sound-here}
 use Rattle.rx_verdict.proofs.flaws.first_flaw.Goals as goal
+use Rattle.rx_runs.proofs.Pairs.{journal_got}
 
 pub loop-p-preserved : goal.loop-p-preserved
 loop-p-preserved c =
@@ -14,7 +15,7 @@ loop-p-preserved c =
     let es = c.args.history.now.entries in
     let p = c.loop-p.p in
     let death = c.requires.deaths.each p (omega arith) in
-    let is = journal-is js p c.item.result.now.events (events-at c.args.journals.now p c.item.result.now c.item.ensures) in
+    let is = journal_got js p c.item.result.now.events (events-at c.args.journals.now p c.item.result.now c.item.ensures) in
     let heap = ap (λ (h : Log). h.setup.heap) c.history.view_is in
     let sound = subst (IsFirstIn c.history.inside.setup.heap (slice_index_or c.args.deaths.now p None) c.item.result.now.events (row_at c.args.marks.now p)) c.in-None.is c.in_ok-found.ensures in
     let here = sound-here c.history.inside.setup.heap c.args.history.now.setup.heap es js c.args.marks.now p (slice_index_or c.args.deaths.now p None) c.item.result.now.events heap death is sound in

@@ -6,8 +6,9 @@ use Rattle.rx_history.specs.Setups.{given}
 use Rattle.rx_history.specs.Events.{events_of}
 use Rattle.rx_verify.specs.Inside.Admits.{AuditIs}
 use Rattle.rx_verify.specs.Inside.Passing.{FirstFlaw}
-use Rattle.rx_verify.proofs.Passing.{part_here, ok_as}
+use Rattle.rx_verify.proofs.Passing.{part_here}
 use Rattle.rx_verify.proofs.verifying.judge.Goals as goal
+use Rattle.rx_control.proofs.Words.{ok-then}
 
 pub returns-in-Some : goal.returns-in-Some
 returns-in-Some g c = λ code st.
@@ -49,7 +50,7 @@ returns g c =
     let pass = subst (λ (o : Option ℕ). FirstFlaw S c.args.program.now.script U es js c.first_flaw.new.audit c.first_flaw.new.players o) c.in-None.is c.in_ok-flaw.ensures.flaw in
     let audit = subst (λ (xs : List Entry). AuditIs S U xs c.first_flaw.new.audit) (take-length es) pass.audit in
     let last = (c.has_ended.ensures.ends U es audit).0 c.if-not-has_ended.false in
-    ok_as c.judge_events.result _ _ c.judge_events.ensures (λ v told code st.
+    ok-then c.judge_events.result _ _ c.judge_events.ensures (λ v told code st.
     let part = part_here S c.args.program.now.script U es js (length es) c.seats_tell.ensures c.first_flaw.new.audit c.first_flaw.new.players pass code st in
     let marks = c.in_ok-marks-in-None.ensures.tell code U es st (pass.players code st) in
     c.events_decide.ensures code U es js _ v (λ n le. (c.parts_begin.ensures code U es js).1 n (length es) le part) last c.requires.one_each marks told)

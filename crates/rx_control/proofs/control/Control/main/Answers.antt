@@ -5,7 +5,7 @@ use Rattle.rx_syntax.specs.declared.nodes.BlockId.{BlockId}
 use Rattle.rx_control.specs.declared.control.Control.{Control}
 use Rattle.rx_control.specs.Stands.{StandsFor}
 use Rattle.rx_control.proofs.Words.{ok-then}
-use Rattle.rx_control.proofs.Bound.{steps-items}
+use Rattle.rx_runs.proofs.Sinking.{steps_items}
 use Rattle.rx_control.proofs.control.Control.main.Goals as goal
 
 pub returns-clause-stands : goal.returns-clause-stands
@@ -22,4 +22,4 @@ returns-clause-stands c =
     (subst M c.script-script.ensures (subst N c.open.ensures r.0), r.1 ∙ c.none.ensures))
 
 pub returns-clause-steps : goal.returns-clause-steps
-returns-clause-steps c b = omega (arith, steps-items b [] 0 Empty)
+returns-clause-steps c b = omega (arith, steps_items b [] 0 Empty)

@@ -3,3 +3,4 @@ pub mod Memory
 pub mod Sets
 pub mod Lists
 pub mod Few
+pub mod Batches

@@ -7,7 +7,9 @@ use crate::{Faults, Path};
 pub fn same_path(a: &Path, b: &Path) -> bool
     ensures { IsTrue result ↔ (a.now ≡ b.now) }
 {
-    a.numbers() == b.numbers()
+    let mut left = [0; 7];
+    let mut right = [0; 7];
+    a.numbers(&mut left) == b.numbers(&mut right)
 }
 
 /// Whether two lists of faults are the same.

@@ -20,7 +20,7 @@ pub use compare::{same_faults, same_path};
 pub use failures::{Failed, NoMemory};
 pub use gate::{CellGate, Gate, MeetGate, NoGate};
 pub use ids::{GlobalRef, Kill, PlaceId, ScopeId, TaskId};
-pub use lists::{Batch, Faults, Path};
+pub use lists::{Batch, FaultRoom, Faults, Path};
 pub use memory::{MemSink, MemSource};
 pub use outside::{Sink, Source, write_all};
 pub use place_set::{PlaceSet, members_make_the_set};

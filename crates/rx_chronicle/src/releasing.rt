@@ -1,5 +1,5 @@
 // The releases.
-ghost use Rattle.std.specs.Prelude.{◌≡◌, ◌≤◌, length, vec_capacity, IfErr, OnOk, OnErr};
+ghost use Rattle.std.specs.Prelude.{◌≡◌, IfErr, OnOk, OnErr};
 ghost use Rattle.rx_finish.specs.Callers.{MayAskRelease};
 ghost use Rattle.rx_finish.specs.Calls.{IsHindered};
 ghost use Rattle.rx_chronicle.specs.Requests.{tree_told, MayAskEntry, Replied, RootDone, IsRootRefused};
@@ -7,7 +7,7 @@ ghost use Rattle.rx_chronicle.specs.Requests.{tree_told, MayAskEntry, Replied, R
 use crate::chronicle::Chronicle;
 use crate::entry::add;
 use crate::notes::faults_of;
-use rx_base::{Batch, Fault, Faults};
+use rx_base::{Batch, FaultRoom};
 use rx_finish::{Caller, FinishLedger, LedgerFault, Outcome};
 use rx_rules::{Act, Entry};
 
@@ -21,11 +21,11 @@ impl<L: FinishLedger> Chronicle<L> {
         ensures back { OnErr result (batch.new ≡ batch.old) }
     {
         let scope = who.inner;
-        let Ok(room) = Vec::with_capacity(self.alloc, faults_of(&self.notes, scope) as usize) else {
+        let Ok(room) = FaultRoom::open(self.alloc, faults_of(&self.notes, scope) as usize) else {
             return Err(LedgerFault::NoMemory);
         };
         let outcome = self.ledger.release(who)?;
-        let thrown = copy_into(&outcome.thrown, room);
+        let thrown = room.fill(&outcome.thrown);
         let act = Act::Release {
             scope,
             lost: outcome.lost,
@@ -56,16 +56,4 @@ impl<L: FinishLedger> Chronicle<L> {
         self.ended = true;
         Ok(())
     }
-}
-
-/// A copy of faults, for which there is room. It takes no memory.
-fn copy_into(thrown: &Faults, mut room: Vec<Fault>) -> Faults
-    requires empty { length room.items ≡ 0 }
-    requires room { length thrown.now ≤ vec_capacity room }
-    ensures { result ≡ thrown.now }
-{
-    for i in 0..thrown.len() {
-        room.push_reserved(thrown.item(i));
-    }
-    Faults::from_vec(room)
 }

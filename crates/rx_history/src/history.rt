@@ -78,9 +78,7 @@ impl History {
         requires { 0 < self.old.spare }
         ensures { self.new ≡ record { setup = self.old.setup; entries = self.old.entries ++ item ∷ []; spare = self.old.spare - 1 } }
     {
-        match self.entries.push(item) {
-            Ok(()) => self.spare -= 1,
-            Err(_) => unreachable!(),
-        }
+        self.entries.push_reserved(item);
+        self.spare -= 1;
     }
 }

@@ -76,10 +76,8 @@ impl Journal {
         requires { 0 < self.old.spare }
         ensures { self.new ≡ record { events = self.old.events ++ item ∷ []; spare = self.old.spare - 1 } }
     {
-        match self.events.push(item) {
-            Ok(()) => self.spare -= 1,
-            Err(_) => unreachable!(),
-        }
+        self.events.push_reserved(item);
+        self.spare -= 1;
     }
 }
 
@@ -154,10 +152,8 @@ impl Journals {
         requires { 0 < self.old.spare }
         ensures { self.new ≡ record { journals = self.old.journals ++ item ∷ []; spare = self.old.spare - 1 } }
     {
-        match self.journals.push(item) {
-            Ok(()) => self.spare -= 1,
-            Err(_) => unreachable!(),
-        }
+        self.journals.push_reserved(item);
+        self.spare -= 1;
     }
 
     /// Appends the journal of the next place. It uses one of the spare number where there is one.

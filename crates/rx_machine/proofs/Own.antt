@@ -100,7 +100,7 @@ release-own T T' n e = (ap (map (λ g. g.number)) e, ap (map (λ g. g.kind)) e)
 -- an entry more leaves the work of a task as it is
 pub work-still : (shape : Shape) (es : List Entry) (e : Entry) (p : Player) (w : Work) → IsWork shape es p w → IsWork shape (es ++ e ∷ []) p w
 work-still shape es e p (Begun control) h = h
-work-still shape es e p (NotBegun seed entry) h =
+work-still shape es e p (NotBegun entry seed) h =
     let low : entry < length es = slice_get_within es entry h.1.0 h.1.1 in
     let before : slice_get (es ++ e ∷ []) entry ≡ slice_get es entry = get_before es e entry (λ w. absurd (omega (arith, low, w))) in
     (h.0, (h.1.0, before ∙ h.1.1, h.1.2), h.2, h.3)

@@ -78,13 +78,13 @@ module _ {L : Type 0} {shape : Shape} {code : Block} {U : Given} {m : Machine L}
   older = λ e. let low : i < (tree_in U G).next_task = subst (λ (v : ℕ). i < v) a.but.shares.slots a.inside in absurd (omega (arith, e))
 
   -- what the task that the next entry starts has still to run
-  sown : (seed : Seed) (e : Entry) (x : List ℕ) → entry_starts e ≡ Some x → IsSeedOf shape seed x (child q.term) → seed.vars ≡ q.vars → IsWork shape (G.entries ++ e ∷ []) (child_player q) (NotBegun seed (length m.chronicle.entries))
+  sown : (seed : Seed) (e : Entry) (x : List ℕ) → entry_starts e ≡ Some x → IsSeedOf shape seed x (child q.term) → seed.vars ≡ q.vars → IsWork shape (G.entries ++ e ∷ []) (child_player q) (NotBegun (length m.chronicle.entries) seed)
   sown seed e x starts grows vars =
       let number : length m.chronicle.entries ≡ length G.entries = ap length a.but.shares.entries in
       (x, (e, ap (slice_get (G.entries ++ e ∷ [])) number ∙ get-pushed G.entries e, starts), grows, vars)
 
   -- the turn of a start
-  pub spawned : (to : PlaceId) (m' : Machine L) (mover' : Mover) (slot : Option Seat) (seed : Seed) (number : TaskId) (under : ScopeId) (x : List ℕ) → Sound (tree_in U G) → does q.vars here.0 q.term ≡ Spawns to.0 → begins q.term ≡ Some x → m' ≡ record m { chronicle = m'.chronicle; seats = m'.seats; idle = m'.idle } → Granted m.chronicle mover.who (Spawn number under (place_number mover.who.place) to x) mover.batch m'.chronicle → StandsFor shape mover'.control.value (granted [] q.term) → mover'.control.value.vars ≡ mover.control.value.vars → row_of (seat_of mover') ≡ row_of (seat_of mover) → mover'.who.inner ≡ mover.who.inner → IsSeedOf shape seed x (child q.term) → seed.vars ≡ mover.control.value.vars → IsBorn (tree_told m.chronicle) number under here to (NotBegun seed (length m.chronicle.entries)) slot → m'.seats.items ≡ slice_set m.seats.items i (Some (seat_of mover')) ++ slot ∷ [] → LeadsTo (Turn U k G true) (Seated shape code U m')
+  pub spawned : (to : PlaceId) (m' : Machine L) (mover' : Mover) (slot : Option Seat) (seed : Seed) (number : TaskId) (under : ScopeId) (x : List ℕ) → Sound (tree_in U G) → does q.vars here.0 q.term ≡ Spawns to.0 → begins q.term ≡ Some x → m' ≡ record m { chronicle = m'.chronicle; seats = m'.seats; idle = m'.idle } → Granted m.chronicle mover.who (Spawn number under (place_number mover.who.place) to x) mover.batch m'.chronicle → StandsFor shape mover'.control.value (granted [] q.term) → mover'.control.value.vars ≡ mover.control.value.vars → row_of (seat_of mover') ≡ row_of (seat_of mover) → mover'.who.inner ≡ mover.who.inner → IsSeedOf shape seed x (child q.term) → seed.vars ≡ mover.control.value.vars → IsBorn (tree_told m.chronicle) number under here to (NotBegun (length m.chronicle.entries) seed) slot → m'.seats.items ≡ slice_set m.seats.items i (Some (seat_of mover')) ++ slot ∷ [] → LeadsTo (Turn U k G true) (Seated shape code U m')
   spawned to m' mover' slot seed number under x sound asks path on granted_so term vars row inside grows child_vars born_so back =
       let T : Tree = tree_in U G in
       let b : Task = born T number under here to in
@@ -93,7 +93,7 @@ module _ {L : Type 0} {shape : Shape} {code : Block} {U : Given} {m : Machine L}
       let act : Act = Spawn number under here to x in
       let did : Granted m.chronicle mover.who act mover.batch m'.chronicle = subst (λ (w : Where). Granted m.chronicle mover.who (Spawn number under (place_number w) to x) mover.batch m'.chronicle) a.gone.is_at granted_so in
       let may : AllowedAct T t act = of-game (λ (V : Tree). AllowedAct V t act) a.but.shares did.allowed in
-      let is : IsBorn T number under here to (NotBegun seed (length m.chronicle.entries)) slot = of-game (λ (V : Tree). IsBorn V number under here to (NotBegun seed (length m.chronicle.entries)) slot) a.but.shares born_so in
+      let is : IsBorn T number under here to (NotBegun (length m.chronicle.entries) seed) slot = of-game (λ (V : Tree). IsBorn V number under here to (NotBegun (length m.chronicle.entries) seed) slot) a.but.shares born_so in
       let grant : AfterGrant (Spawns to.0) (granted [] q.term) = subst (λ (d : Does). AfterGrant d (granted [] q.term)) asks (after-grant q.vars here.0 [] q.term s.held) in
       let spine : GrantsSpine (reverse (own_kinds T i)) (Spawns to.0) (granted [] q.term) = subst (λ (d : Does). GrantsSpine (reverse (own_kinds T i)) d (granted [] q.term)) asks (spine-grant (reverse (own_kinds T i)) q.vars here.0 [] q.term s.spine) in
       let free : is_held q.term ≡ false = asks-free q here.0 (Spawns to.0) asks (λ f. let g : ⊥ = cc f in g) in
@@ -107,11 +107,11 @@ module _ {L : Type 0} {shape : Shape} {code : Block} {U : Given} {m : Machine L}
         held = grant.0;
         spine = spine;
       })
-      (new-slot shape (G.entries ++ Step t act q.batch ∷ []) T (add_task b T) T.next_task q slot (NotBegun seed (length m.chronicle.entries)) number under here to (subst (λ (v : ℕ). live_task (add_task b T) v ≡ if_unstruck b) may.asks.1 (add-same T b)) (none-own T sound) (sown seed (Step t act q.batch) x refl grows (child_vars ∙ s.work.1)) is.lost is.row is.rest)
+      (new-slot shape (G.entries ++ Step t act q.batch ∷ []) T (add_task b T) T.next_task q slot (NotBegun (length m.chronicle.entries) seed) number under here to (subst (λ (v : ℕ). live_task (add_task b T) v ≡ if_unstruck b) may.asks.1 (add-same T b)) (none-own T sound) (sown seed (Step t act q.batch) x refl grows (child_vars ∙ s.work.1)) is.lost is.row is.rest)
       (went m m' on did) back
 
   -- the turn of a call
-  pub called : (to : PlaceId) (m' : Machine L) (mover' : Mover) (slot : Option Seat) (seed : Seed) (scope : ScopeId) (number : TaskId) (x : List ℕ) → Sound (tree_in U G) → does q.vars here.0 q.term ≡ Calls to.0 → begins q.term ≡ Some x → m' ≡ record m { chronicle = m'.chronicle; seats = m'.seats; idle = m'.idle } → Granted m.chronicle mover.who (CallsAt (place_number mover.who.place) to scope mover.who.inner number x) mover.batch m'.chronicle → StandsFor shape mover'.control.value (granted [] q.term) → mover'.control.value.vars ≡ mover.control.value.vars → row_of (seat_of mover') ≡ waiting (row_of (seat_of mover)) → mover'.who.inner ≡ scope → IsSeedOf shape seed x (child q.term) → seed.vars ≡ mover.control.value.vars → IsBorn (tree_told m.chronicle) number scope here to (NotBegun seed (length m.chronicle.entries)) slot → m'.seats.items ≡ slice_set m.seats.items i (Some (seat_of mover')) ++ slot ∷ [] → LeadsTo (Turn U k G true) (Seated shape code U m')
+  pub called : (to : PlaceId) (m' : Machine L) (mover' : Mover) (slot : Option Seat) (seed : Seed) (scope : ScopeId) (number : TaskId) (x : List ℕ) → Sound (tree_in U G) → does q.vars here.0 q.term ≡ Calls to.0 → begins q.term ≡ Some x → m' ≡ record m { chronicle = m'.chronicle; seats = m'.seats; idle = m'.idle } → Granted m.chronicle mover.who (CallsAt (place_number mover.who.place) to scope mover.who.inner number x) mover.batch m'.chronicle → StandsFor shape mover'.control.value (granted [] q.term) → mover'.control.value.vars ≡ mover.control.value.vars → row_of (seat_of mover') ≡ waiting (row_of (seat_of mover)) → mover'.who.inner ≡ scope → IsSeedOf shape seed x (child q.term) → seed.vars ≡ mover.control.value.vars → IsBorn (tree_told m.chronicle) number scope here to (NotBegun (length m.chronicle.entries) seed) slot → m'.seats.items ≡ slice_set m.seats.items i (Some (seat_of mover')) ++ slot ∷ [] → LeadsTo (Turn U k G true) (Seated shape code U m')
   called to m' mover' slot seed scope number x sound asks path on granted_so term vars row inside grows child_vars born_so back =
       let T : Tree = tree_in U G in
       let t : TaskId = mover.who.task in
@@ -119,7 +119,7 @@ module _ {L : Type 0} {shape : Shape} {code : Block} {U : Given} {m : Machine L}
       let act : Act = CallsAt here to scope parent number x in
       let did : Granted m.chronicle mover.who act mover.batch m'.chronicle = subst (λ (w : Where). Granted m.chronicle mover.who (CallsAt (place_number w) to scope parent number x) mover.batch m'.chronicle) a.gone.is_at granted_so in
       let may : AllowedAct T t act = of-game (λ (V : Tree). AllowedAct V t act) a.but.shares did.allowed in
-      let is : IsBorn T number scope here to (NotBegun seed (length m.chronicle.entries)) slot = of-game (λ (V : Tree). IsBorn V number scope here to (NotBegun seed (length m.chronicle.entries)) slot) a.but.shares born_so in
+      let is : IsBorn T number scope here to (NotBegun (length m.chronicle.entries) seed) slot = of-game (λ (V : Tree). IsBorn V number scope here to (NotBegun (length m.chronicle.entries) seed) slot) a.but.shares born_so in
       let b : Task = born T number scope here to in
       let T1 : Tree = opened T t Call scope parent in
       let T2 : Tree = add_task b T1 in
@@ -148,5 +148,5 @@ module _ {L : Type 0} {shape : Shape} {code : Block} {U : Given} {m : Machine L}
         held = grant.0;
         spine = subst (λ (ks : List Kind). Spine (granted [] q.term) ks) (sym (reverse-append (Call ∷ []) (own_kinds T i)) ∙ ap (λ (ks : List Kind). reverse ks) (sym own.1)) spine;
       })
-      (new-slot shape (G.entries ++ Step t act q.batch ∷ []) T T3 T.next_task q slot (NotBegun seed (length m.chronicle.entries)) number scope here to (live T.next_task (λ e. older (sym e)) ∙ subst (λ (v : ℕ). live_task T2 v ≡ if_unstruck b) may.asks.3 (add-same T1 b)) (kept.0 ∙ none.0, kept.1 ∙ none.1) (sown seed (Step t act q.batch) x refl grows (child_vars ∙ s.work.1)) is.lost is.row is.rest)
+      (new-slot shape (G.entries ++ Step t act q.batch ∷ []) T T3 T.next_task q slot (NotBegun (length m.chronicle.entries) seed) number scope here to (live T.next_task (λ e. older (sym e)) ∙ subst (λ (v : ℕ). live_task T2 v ≡ if_unstruck b) may.asks.3 (add-same T1 b)) (kept.0 ∙ none.0, kept.1 ∙ none.1) (sown seed (Step t act q.batch) x refl grows (child_vars ∙ s.work.1)) is.lost is.row is.rest)
       (went m m' on did) back

@@ -85,7 +85,7 @@ StartsBy es n x = (e : Entry) × (slice_get es n ≡ Some e) × (entry_starts e 
 -- the work is what the player has still to run: all of it, with the path that an entry tells, where the task has not begun
 abbrev pub IsWork : Shape → List Entry → Player → Work → Type 0
 IsWork shape es p (Begun control) = StandsFor shape control.value p.term × (control.value.vars ≡ p.vars)
-IsWork shape es p (NotBegun seed entry) = (x : List ℕ) × StartsBy es entry x × IsSeedOf shape seed x p.term × (seed.vars ≡ p.vars)
+IsWork shape es p (NotBegun entry seed) = (x : List ℕ) × StartsBy es entry x × IsSeedOf shape seed x p.term × (seed.vars ≡ p.vars)
 
 -- the seat is that of the unstruck task of a number, and its work is what the player has still to run
 pub record IsSeat (shape : Shape) (es : List Entry) (T : Tree) (n : ℕ) (p : Player) (seat : Seat) : Type 0 where

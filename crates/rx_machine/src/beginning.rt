@@ -47,7 +47,7 @@ fn at_work(
 {
     match work {
         Work::Control(control) => Ok(control),
-        Work::Seed { seed, entry } => {
+        Work::Seed { entry, seed } => {
             let path = path_started(alloc, history, entry)?;
             let mut control = any_control(alloc, idle)?;
             control.begin(p, seed, path)?;

@@ -29,7 +29,8 @@ pub struct Seat {
 #[derive(Drop)]
 pub enum Work {
     /// It has not begun. The entry of this number started it, and tells its path.
-    Seed { seed: Seed, entry: u32 },
+    // The number stands first, where it fills the word of the tag. So a slot has 80 bytes and not 88.
+    Seed { entry: u32, seed: Seed },
     /// It has begun. Its control lies by itself in memory, so that a seat is short.
     Control(Box<Control>),
 }
@@ -137,7 +138,7 @@ pub(crate) fn new_seat(
 ) -> Option<Seat>
     ensures lost { is_none result ≡ task.lost }
     ensures row { IfSome result (λ seat. (T : Tree) → death_of T to ≡ None → row_of seat ≡ born T task.child task.scope from to) }
-    ensures seat { IfSome result (λ seat. (seat.who.inner ≡ task.scope) × (seat.work ≡ Work.Seed seed entry)) }
+    ensures seat { IfSome result (λ seat. (seat.who.inner ≡ task.scope) × (seat.work ≡ Work.Seed entry seed)) }
 {
     if task.lost {
         return None;
@@ -150,7 +151,7 @@ pub(crate) fn new_seat(
             place: travel(from, to),
         },
         waits: false,
-        work: Work::Seed { seed, entry },
+        work: Work::Seed { entry, seed },
     })
 }
 

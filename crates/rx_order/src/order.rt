@@ -16,7 +16,9 @@ use rx_syntax::{BlockId, Script, Stmt, whole};
 pub fn before(p: &Program, x: &Path, y: &Path) -> bool
     ensures { (t : Block) → Stands p.now.script t → result ≡ comes_before t x.now y.now }
 {
-    is_before(p, x.numbers(), y.numbers())
+    let mut left = [0; 7];
+    let mut right = [0; 7];
+    is_before(p, x.numbers(&mut left), y.numbers(&mut right))
 }
 
 // The same of their numbers.

@@ -46,7 +46,8 @@ impl Copies {
         requires { (xs : List (List ℕ)) × AreCopied xs self.old }
         ensures { OnOk result ((xs : List (List ℕ)) → AreCopied xs self.old → AreCopied (xs ++ path.now ∷ []) self.new) }
     {
-        let x = path.numbers();
+        let mut short = [0; 7];
+        let x = path.numbers(&mut short);
         self.ascending = self.ascending && order(&self.numbers[self.last..], x).is_lt();
         self.last = self.numbers.len();
         self.numbers.extend_from_slice(x)?;

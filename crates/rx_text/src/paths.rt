@@ -15,7 +15,8 @@ pub fn put_path(out: &mut Vec<u8>, p: &Path) -> Result<(), NoMemory>
         return Err(NoMemory);
     };
     out.reserve(room)?;
-    push_numbers(out, p.numbers());
+    let mut short = [0; 7];
+    push_numbers(out, p.numbers(&mut short));
     Ok(())
 }
 

@@ -52,9 +52,10 @@ fn lists_find_memory(rt: HostRuntime) -> Result<(), Fail> {
     let copy = batch_copied(rt.alloc())?;
     assert!(rt; copy.len() == 2);
     same(&rt, copy.item(0).len(), 0);
+    let mut short = [0; 7];
     same(
         &rt,
-        copy.item(1).numbers(),
+        copy.item(1).numbers(&mut short),
         [2, 0, 4, 7, 1, 9, 3, 8, 5].as_slice(),
     );
     let word = RxWord::from_bytes(rt.alloc(), b"--kill")?;

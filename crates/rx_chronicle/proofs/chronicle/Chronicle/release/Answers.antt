@@ -23,8 +23,8 @@ returns-in_err-outcome-clause-answer g c =
     let p = err_from_is_err_and c.from_residual.result c.from_residual.ensures.1 in
     rw (p.1, p.2) (no.0, c.self.view_is)
 
-pub copy_into-thrown-requires-clause-room : goal.copy_into-thrown-requires-clause-room
-copy_into-thrown-requires-clause-room g c =
+pub fill-thrown-requires : goal.fill-thrown-requires
+fill-thrown-requires g c =
     let now = c.args.self.now in
     let b = c.self.inside in
     let T = tree_told now in
@@ -34,7 +34,7 @@ copy_into-thrown-requires-clause-room g c =
     let ns = map (λ (n : Note). n.faults) b.notes.items in
     let bound = thrown_bound ns T s k.noted.bounds in
     let at : c.faults_of.result ≡ slice_index_or ns s.0 0 = c.faults_of.ensures ∙ ap (λ (xs : List Note). slice_index_or (map (λ n. n.faults) xs) s.0 0) c.deref.ensures.value in
-    let capacity = c.in-Ok.ensures.capacity in
+    let capacity = c.in-Ok.ensures in
     let is : length c.in_ok-outcome.outcome.thrown ≡ length (thrown_of T s) = ap (λ (f : List Fault). length f) did.allowed.asks.3.faults in
     omega (arith, bound, at, capacity, is)
 
@@ -49,7 +49,7 @@ invariant_of-self-2 g c =
     let k = seen c.self.view_is c.self.invariant in
     let did = c.in_ok-outcome.ensures (room now) T k.tree c.requires.asks in
     granted now k c.release.new.self b.notes.items who.task (Release who.inner o.lost o.masked o.thrown) batch c.self.view_is
-    (c.add.ensures ∙ ap (λ (fs : List Fault). with_entry b.history (Step who.task (Release who.inner o.lost o.masked fs) batch)) c.copy_into-thrown.ensures)
+    (c.add.ensures ∙ ap (λ (fs : List Fault). with_entry b.history (Step who.task (Release who.inner o.lost o.masked fs) batch)) c.fill-thrown.ensures)
     c.requires.ready.calm did.allowed did.made
     (grown_none who.task (Release who.inner o.lost o.masked o.thrown) _ _ refl refl (bounds-release (map (λ (n : Note). n.faults) b.notes.items) T who.inner k.noted.bounds))
 
@@ -76,6 +76,6 @@ returns-clause-answer g c =
       allowed = did.allowed;
       told =
           c.add.ensures
-          ∙ (ap (λ (fs : List Fault). with_entry b.history (Step who.task (Release who.inner o.lost o.masked fs) batch)) c.copy_into-thrown.ensures
+          ∙ (ap (λ (fs : List Fault). with_entry b.history (Step who.task (Release who.inner o.lost o.masked fs) batch)) c.fill-thrown.ensures
           ∙ ap (λ (h : Log). with_entry h (Step who.task (Release who.inner o.lost o.masked o.thrown) batch)) c.self.view_is);
     }

@@ -59,7 +59,7 @@ returns-in-Ok-clause-made g c = λ code U k q G a asks.
     (record {
       lost = c.new_seat.ensures.lost ∙ c.in-Ok.ensures.lost;
       row = c.new_seat.ensures.row;
-      rest = subst (λ (n : ℕ). IfSome slot (NewSeat (NotBegun c.in_ok-path.seed n) c.in-Ok.born.scope)) number c.new_seat.ensures.seat;
+      rest = subst (λ (n : ℕ). IfSome slot (NewSeat (NotBegun n c.in_ok-path.seed) c.in-Ok.born.scope)) number c.new_seat.ensures.seat;
     })
     back
 

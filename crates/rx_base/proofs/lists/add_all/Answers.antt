@@ -1,12 +1,12 @@
 use Rattle.std.proofs.Common.{ap, ◌∙◌, ◌≡◌, ◌≤◌, ◌+◌, suc, ◌++◌, [], ◌∷◌, sym, subst, arith, ℕ, List, take, length}
 use Rattle.std.proofs.lemmas.Option.{get_or_from_slice_get, slice_get_within}
 use Rattle.std.proofs.Math.Seq.{take-suc}
-use Rattle.rx_rules.proofs.Common.{Fault}
-use Rattle.rx_chronicle.proofs.releasing.copy_into.Goals as goal
+use Rattle.rx_base.specs.declared.values.Fault.{Fault}
+use Rattle.rx_base.proofs.lists.add_all.Goals as goal
 
 pub loop-i-preserved : goal.loop-i-preserved
 loop-i-preserved c =
-    let xs = c.args.thrown.now in
+    let xs = c.args.faults.now in
     let i = c.loop-i.i in
     let x = c.item.result in
     let low = slice_get_within xs i x c.item.ensures in

@@ -219,16 +219,8 @@ module _ (code : Block) (L : BookName LedgerFixed) (a : Hand) (k : ActivityInvar
       )
 
       host_asks : (ask : Ask) → SuitsStep d ask → HostAsks (view_of a.pass).number ask
-      host_asks AskOpen h = tt
-      host_asks (AskCall to) h = tt
-      host_asks (AskSpawn to) h = tt
-      host_asks AskArrive h = tt
-      host_asks (AskWait thrown) h = tt
-      host_asks AskRelease h = tt
-      host_asks (AskEnd thrown) h = tt
-      host_asks (AskPrint value) h = tt
       host_asks AskRoot h = absurd h
-      host_asks AskCensus h = tt
+      host_asks _ h = tt
 
       -- the condition of the ledger's book's call, of the activity's pass, from which others may have been split
       pub asks_so : (n : ℕ) → (op.note ≡ None → since a ≡ []) → ((m : Note EventItem) → op.note ≡ Some m → OfSeat a m) → AsksLedger code L.fixed (record (view_of a.pass) { splits = n }) op

@@ -1,6 +1,6 @@
 -- What a step asks for, what a started task's statement is, and what the control is after the request was made.
 use Rattle.std.proofs.Common.{◌≡◌, ℕ, List, Option, Some, ap, sym, ◌∙◌}
-use Rattle.rx_rules.proofs.Common.{PlaceId, Fault, Term, Empty, Vars, Does, Local, Makes, Gets, Puts, Forgets, Opens, Calls, Spawns, Waits, Releases, Prints, Counts, Done, does, begins, granted, replaced}
+use Rattle.rx_rules.proofs.Common.{PlaceId, Fault, Term, Empty, Vars, Does, Calls, Spawns, Waits, does, begins, granted, replaced}
 use Rattle.rx_syntax.specs.Shape.{Shape}
 use Rattle.rx_control.specs.declared.control.Control.{Control}
 use Rattle.rx_history.specs.declared.step.Next.{Next}
@@ -14,19 +14,9 @@ use Rattle.rx_plan.proofs.Requests.{asks_wait}
 use Rattle.rx_activities.specs.Inside.Sending.{target, IsReady}
 
 path_of : (d : Does) (o : Option (List ℕ)) (to : PlaceId) → BeginsStatement d o → target (next_of d) ≡ Some to → (x : List ℕ) × (o ≡ Some x)
-path_of (Local left vars) o to b h = absurd (let g : ⊥ = cc h in g)
-path_of (Makes name words) o to b h = absurd (let g : ⊥ = cc h in g)
-path_of (Gets name target index) o to b h = absurd (let g : ⊥ = cc h in g)
-path_of (Puts target index value) o to b h = absurd (let g : ⊥ = cc h in g)
-path_of (Forgets target) o to b h = absurd (let g : ⊥ = cc h in g)
-path_of Opens o to b h = absurd (let g : ⊥ = cc h in g)
 path_of (Calls place) o to b h = b
 path_of (Spawns place) o to b h = b
-path_of (Waits faults) o to b h = absurd (let g : ⊥ = cc h in g)
-path_of Releases o to b h = absurd (let g : ⊥ = cc h in g)
-path_of (Prints value) o to b h = absurd (let g : ⊥ = cc h in g)
-path_of (Counts name) o to b h = absurd (let g : ⊥ = cc h in g)
-path_of (Done faults) o to b h = absurd (let g : ⊥ = cc h in g)
+path_of _ o to b h = absurd (let g : ⊥ = cc h in g)
 
 -- a step that starts a task begins a statement
 pub started_path : (next : Next) (to : PlaceId) (vars : Vars) (here : ℕ) (t : Term) → next ≡ next_of (does vars here t) → target next ≡ Some to → (x : List ℕ) × (begins t ≡ Some x)

@@ -1,7 +1,7 @@
 -- What an activity shows by its passes of a call of its place's store.
 use Rattle.std.proofs.Common.{◌≡◌, ◌+◌, ◌<◌, ◌≤◌, ◌^◌, ℕ, false, List, [], length, Option, Some, slice_get, refl, ap, sym, ◌∙◌, subst, arith}
 use mathlib.Core.List.{IsPrefix}
-use Rattle.rx_rules.proofs.Common.{has_bit, PlaceId, TaskId, Block, opening_state, Term, Vars, Does, Local, Makes, Gets, Puts, Forgets, Opens, Calls, Spawns, Waits, Releases, Prints, Counts, Done, does, begins, tree_of, Given, Folds, Player, RunsWithoutEntry, stays as goes_none, Cells}
+use Rattle.rx_rules.proofs.Common.{has_bit, PlaceId, TaskId, Block, opening_state, Term, Vars, Does, Makes, Gets, Puts, Forgets, does, begins, tree_of, Given, Folds, Player, RunsWithoutEntry, stays as goes_none, Cells}
 use Rattle.rx_runs.specs.Steps.{TermSinks}
 use Rattle.rx_tree_laws.proofs.Beginning.{begins-so}
 use Rattle.rx_tree_laws.specs.TermSteps.{BeginsStatement}
@@ -194,19 +194,11 @@ call_is code L a t s op sink next =
 
 -- where a call of the store is next, a statement begins
 call_begins : (op : CellOp) (d : Does) (b : Option (List ℕ)) → next_of d ≡ CellStep op → BeginsStatement d b → (x : List ℕ) × (b ≡ Some x)
-call_begins op (Local left vars) b e h = absurd (let f : ⊥ = cc in f)
 call_begins op (Makes name words) b e h = h
 call_begins op (Gets name target index) b e h = h
 call_begins op (Puts target index value) b e h = h
 call_begins op (Forgets target) b e h = h
-call_begins op Opens b e h = absurd (let f : ⊥ = cc in f)
-call_begins op (Calls place) b e h = absurd (let f : ⊥ = cc in f)
-call_begins op (Spawns place) b e h = absurd (let f : ⊥ = cc in f)
-call_begins op (Waits faults) b e h = absurd (let f : ⊥ = cc in f)
-call_begins op Releases b e h = absurd (let f : ⊥ = cc in f)
-call_begins op (Prints value) b e h = absurd (let f : ⊥ = cc in f)
-call_begins op (Counts name) b e h = absurd (let f : ⊥ = cc in f)
-call_begins op (Done faults) b e h = absurd (let f : ⊥ = cc in f)
+call_begins op _ b e h = absurd (let f : ⊥ = cc in f)
 
 -- In each run of the program in which the activity is known, and calls the store next.
 module _ (p : Checked) (L : BookName LedgerFixed) (a : Hand) (k : ActivityInvariant L a) (program : L.fixed.program ≡ p) (op : CellOp) (next : (t : Term) → StandsFor p.script a.control.value t → CellStep op ≡ next_of (does a.control.value.vars a.place.0 t)) where

@@ -4,9 +4,9 @@ use Rattle.std.specs.List.{flat_map}
 use Rattle.rx_text.specs.Numbers.{natural_text}
 use Rattle.rx_rules.proofs.Common.{told, told_in, own_path, Given, Block}
 use Rattle.rx_rules.specs.declared.entries.Act.{Act}
-use Rattle.rx_rules.specs.declared.entries.Act.TheVariants.{Open, At, Spawn, Arrive, Wait, Release, End, Print, Census}
+use Rattle.rx_rules.specs.declared.entries.Act.TheVariants.{Open}
 use Rattle.rx_rules.specs.declared.entries.Entry.{Entry}
-use Rattle.rx_rules.specs.declared.entries.Entry.TheVariants.{Step, Root, Death, Join}
+use Rattle.rx_rules.specs.declared.entries.Entry.TheVariants.{Step}
 use Rattle.rx_rules.specs.declared.events.PlaceEvent.{PlaceEvent}
 use Rattle.rx_trace.specs.Fields.{path_field, task_field}
 use Rattle.rx_trace.specs.Parts.{batch_part}
@@ -28,14 +28,7 @@ batch-long (x ∷ batch) = omega (arith, fields-long (x ∷ batch), length-appen
 -- so does the word of an act, which tells one path at most
 own-long : (act : Act) → length (own_path act) ≤ length (act_word act)
 own-long (Open scope parent path) = omega arith
-own-long (At from to scope parent callee path) = omega arith
-own-long (Spawn child scope from to path) = omega arith
-own-long (Arrive place) = omega arith
-own-long (Wait scope thrown) = omega arith
-own-long (Release scope lost masked thrown) = omega arith
-own-long (End thrown) = omega arith
-own-long (Print value path) = omega arith
-own-long (Census places path) = omega arith
+own-long _ = omega arith
 
 entry-long : (e : Entry) → length (told_in e) ≤ length (entry_text e)
 entry-long (Step t act batch) =
@@ -45,9 +38,7 @@ entry-long (Step t act batch) =
   where
     lengths : (a b c d : List ℕ) → length (a ++ b ++ c ++ d) ≡ length a + (length b + (length c + length d))
     lengths a b c d = omega (arith, length-append (a ++ b ++ c) d, length-append (a ++ b) c, length-append a b)
-entry-long (Root lost masked thrown) = omega arith
-entry-long (Death d) = omega arith
-entry-long (Join p) = omega arith
+entry-long _ = omega arith
 
 lines-long : (n : ℕ) (es : List Entry) → length (told es) ≤ length (entry_lines n es)
 lines-long n [] = omega arith

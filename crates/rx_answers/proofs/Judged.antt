@@ -62,10 +62,7 @@ one-case parts script texts bytes code other U V es fs js ks c d =
 -- no other verdict than `run` tells of none
 pub run-alone : (v : Verdict) → is_run v ≡ true → v ≡ Run
 run-alone Run e = refl
-run-alone (AtEntry number) e = let bad : false ≡ true = e in cc
-run-alone End e = let bad : false ≡ true = e in cc
-run-alone (Event place number) e = let bad : false ≡ true = e in cc
-run-alone (Open place) e = let bad : false ≡ true = e in cc
+run-alone _ e = let bad : false ≡ true = e in cc
 
 -- one verdict has one text
 one-text : OneSpan → (question : Question) (v : Verdict) (code : Block) (paths : List (List ℕ)) (text other : List ℕ) → IsTextOf question v code paths text → IsTextOf question v code paths other → text ≡ other

@@ -6,7 +6,7 @@ use Rattle.rx_base.specs.declared.values.Value.TheVariants.{Num as Number, Ref}
 use Rattle.rx_rules.specs.declared.entries.Act.{Act}
 use Rattle.rx_rules.specs.declared.events.Cell.{Cell}
 use Rattle.rx_rules.specs.Code.{Block, Stmt}
-use Rattle.rx_rules.specs.Terms.{Term, Empty, Raise, Run, Turns, Trying, Body, Held, Vars, no_vars, value_of, items, Local, does}
+use Rattle.rx_rules.specs.Terms.{Term, Empty, Run, Trying, Body, Vars, no_vars, value_of, items, Local, does}
 use Rattle.rx_rules.specs.Terms.{Answer, answered, vars_after, granted, child}
 use Rattle.rx_rules.specs.Plays.{Tells, Fits, brought, vars_told}
 use Rattle.rx_syntax.specs.Tokens.{AreNames}
@@ -24,13 +24,10 @@ pub record IsDefined (vars : Vars) (stmt : Stmt) : Type 0 where
 
 -- the statement that the next step begins
 abbrev pub beginning : Term → Option Stmt
-beginning Empty = None
-beginning (Raise faults) = None
 beginning (Run stmt x rest) = Some stmt
-beginning (Turns body x k times rest) = None
 beginning (Trying inside dead_only handler x rest) = beginning inside
 beginning (Body inside rest) = beginning inside
-beginning (Held rest) = None
+beginning _ = None
 
 -- the variables and the term to which a task of the script can come, wherever it is and whatever the store and the ledger answer
 pub data TermComes (code : Block) : Vars → Term → Type 0 where

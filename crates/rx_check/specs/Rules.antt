@@ -21,64 +21,35 @@ names_in (Bin op left right) = names_in left ++ names_in right
 
 -- how many pairs of parentheses stand round its innermost part
 abbrev pub pairs_in : Expr → ℕ
-pairs_in (Num z) = 0
-pairs_in (Name n) = 0
-pairs_in Here = 0
 pairs_in (Bin op left right) = suc (max (pairs_in left) (pairs_in right))
+pairs_in _ = 0
 
 -- a statement's own expressions
 abbrev pub exprs_of : Stmt → List Expr
 exprs_of (SetTo name value) = value ∷ []
-exprs_of (New name words) = []
 exprs_of (Get name target index) = index ∷ []
 exprs_of (Put target index value) = index ∷ value ∷ []
-exprs_of (Forget target) = []
-exprs_of (Census name) = []
 exprs_of (Print value) = value ∷ []
 exprs_of (Throw value) = value ∷ []
-exprs_of (Async body) = []
 exprs_of (AtAsync place body) = place ∷ []
 exprs_of (At place body) = place ∷ []
-exprs_of (Finish body) = []
 exprs_of (If test first other) = test ∷ []
-exprs_of (Repeat times body) = []
-exprs_of (Try body dead_only handler) = []
+exprs_of _ = []
 
 -- its own target
 abbrev pub targets_of : Stmt → List ℕ
-targets_of (SetTo name value) = []
-targets_of (New name words) = []
 targets_of (Get name target index) = target ∷ []
 targets_of (Put target index value) = target ∷ []
 targets_of (Forget target) = target ∷ []
-targets_of (Census name) = []
-targets_of (Print value) = []
-targets_of (Throw value) = []
-targets_of (Async body) = []
-targets_of (AtAsync place body) = []
-targets_of (At place body) = []
-targets_of (Finish body) = []
-targets_of (If test first other) = []
-targets_of (Repeat times body) = []
-targets_of (Try body dead_only handler) = []
+targets_of _ = []
 
 -- the name that it assigns, and the kind that it makes it
 abbrev pub assigned : Stmt → Option (ℕ × Kind)
 assigned (SetTo name value) = Some (name, ANumber)
 assigned (New name words) = Some (name, AReference)
 assigned (Get name target index) = Some (name, ANumber)
-assigned (Put target index value) = None
-assigned (Forget target) = None
 assigned (Census name) = Some (name, ANumber)
-assigned (Print value) = None
-assigned (Throw value) = None
-assigned (Async body) = None
-assigned (AtAsync place body) = None
-assigned (At place body) = None
-assigned (Finish body) = None
-assigned (If test first other) = None
-assigned (Repeat times body) = None
-assigned (Try body dead_only handler) = None
+assigned _ = None
 
 -- a statement of a script: in how many blocks in braces it stands, and which names are known there
 pub record Sight : Type 0 where
@@ -94,14 +65,6 @@ learned None known = known
 -- the statements inside a statement, and those of a block, in the order of their first tokens
 abbrev mutual
   pub inside : List ℕ → ℕ → Stmt → List Sight
-  inside known depth (SetTo name value) = []
-  inside known depth (New name words) = []
-  inside known depth (Get name target index) = []
-  inside known depth (Put target index value) = []
-  inside known depth (Forget target) = []
-  inside known depth (Census name) = []
-  inside known depth (Print value) = []
-  inside known depth (Throw value) = []
   inside known depth (Async body) = sights known (suc depth) body
   inside known depth (AtAsync place body) = sights known (suc depth) body
   inside known depth (At place body) = sights known (suc depth) body
@@ -109,6 +72,7 @@ abbrev mutual
   inside known depth (If test first other) = sights known (suc depth) first ++ sights known (suc depth) other
   inside known depth (Repeat times body) = sights known (suc depth) body
   inside known depth (Try body dead_only handler) = sights known (suc depth) body ++ sights known (suc depth) handler
+  inside known depth _ = []
 
   pub sights : List ℕ → ℕ → Block → List Sight
   sights known depth Nothing = []

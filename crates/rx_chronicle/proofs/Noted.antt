@@ -83,14 +83,7 @@ told_scopes ps os T t (Census places path) may h = more_told ps [] os [] T.scope
 
 by_size : (t : TaskId) (act : Act) → length (openers_by t act) ≡ length (parents_by act)
 by_size t (Open s r path) = refl
-by_size t (Calls from to s r callee path) = refl
-by_size t (Spawn child s from to path) = refl
-by_size t (Arrive p) = refl
-by_size t (Wait s thrown) = refl
-by_size t (Release s lost masked thrown) = refl
-by_size t (End thrown) = refl
-by_size t (Print value path) = refl
-by_size t (Census places path) = refl
+by_size t _ = refl
 
 -- where an entry opens no scope
 none_told : (ps : List ScopeId) (os : List TaskId) (T : Tree) → AllTold ps os T → AllTold (ps ++ []) (os ++ []) T
@@ -112,15 +105,11 @@ told_entry n ps os T (Join d) may h = none_told ps os (made n T (Join d)) (recor
 
 one_then : (e : Entry) (es : List Entry) → parents_in (e ∷ []) ++ parents_in es ≡ parents_in (e ∷ es)
 one_then (Step t act batch) es = ap (λ (qs : List ScopeId). qs ++ parents_in es) (append-nil (parents_by act))
-one_then (Root lost masked thrown) es = refl
-one_then (Death d) es = refl
-one_then (Join d) es = refl
+one_then _ es = refl
 
 opener_then : (e : Entry) (es : List Entry) → openers_in (e ∷ []) ++ openers_in es ≡ openers_in (e ∷ es)
 opener_then (Step t act batch) es = ap (λ (qs : List TaskId). qs ++ openers_in es) (append-nil (openers_by t act))
-opener_then (Root lost masked thrown) es = refl
-opener_then (Death d) es = refl
-opener_then (Join d) es = refl
+opener_then _ es = refl
 
 told_from : (n : ℕ) (ps : List ScopeId) (os : List TaskId) (T : Tree) (es : List Entry) → AllAllowed n T es → AllTold ps os T → AllTold (ps ++ parents_in es) (os ++ openers_in es) (fold_from n T es)
 told_from n ps os T [] may h = none_told ps os T h

@@ -5,7 +5,7 @@ use Rattle.rx_base.specs.declared.place_set.PlaceSet.{PlaceSet}
 use Rattle.rx_base.specs.declared.ids.TaskId.{TaskId}
 use Rattle.rx_base.specs.declared.ids.ScopeId.{ScopeId}
 use Rattle.rx_rules.specs.declared.entries.Act.{Act}
-use Rattle.rx_rules.specs.declared.entries.Act.TheVariants.{Open, At as Calls, Spawn, Arrive, Wait, Release, End, Print, Census}
+use Rattle.rx_rules.specs.declared.entries.Act.TheVariants.{Open, At as Calls}
 use Rattle.rx_rules.specs.declared.entries.Entry.{Entry}
 use Rattle.rx_rules.specs.declared.entries.Entry.TheVariants.{Step, Root, Death, Join}
 use Rattle.rx_rules.specs.Tree.{the_root}
@@ -17,13 +17,7 @@ use Rattle.rx_history.specs.Setups.{to_join}
 abbrev pub parents_by : Act → List ScopeId
 parents_by (Open s r path) = r ∷ []
 parents_by (Calls from to s r callee path) = r ∷ []
-parents_by (Spawn child s from to path) = []
-parents_by (Arrive p) = []
-parents_by (Wait s thrown) = []
-parents_by (Release s lost masked thrown) = []
-parents_by (End thrown) = []
-parents_by (Print value path) = []
-parents_by (Census places path) = []
+parents_by _ = []
 
 -- the parents of the scopes that the entries open, in their order
 abbrev pub parents_in : List Entry → List ScopeId
@@ -45,13 +39,7 @@ parent_told es s = slice_index_or (parents_told es) s.0 the_root
 abbrev pub openers_by : TaskId → Act → List TaskId
 openers_by t (Open s r path) = t ∷ []
 openers_by t (Calls from to s r callee path) = t ∷ []
-openers_by t (Spawn child s from to path) = []
-openers_by t (Arrive p) = []
-openers_by t (Wait s thrown) = []
-openers_by t (Release s lost masked thrown) = []
-openers_by t (End thrown) = []
-openers_by t (Print value path) = []
-openers_by t (Census places path) = []
+openers_by t _ = []
 
 -- the openers of the scopes that the entries open, in their order
 abbrev pub openers_in : List Entry → List TaskId

@@ -1,7 +1,7 @@
 -- What a control stands for: a term of what is left to run.
 use Rattle.std.specs.Prelude.{◌≡◌, ℕ, ◌-◌, List, [], ◌∷◌, ◌++◌, drop, flat_map, Some, option_to_list, slice_get}
 use Rattle.rx_rules.specs.Code.{Block}
-use Rattle.rx_rules.specs.Terms.{Term, Does, Local, Makes, Gets, Puts, Forgets, Opens, Calls, Spawns, Waits, Releases, Prints, Counts, Done}
+use Rattle.rx_rules.specs.Terms.{Term, Does, Local}
 use Rattle.rx_control.specs.Levels.{Level, More, Again, Tried, Inside, Waiting, Settled, term_of}
 use Rattle.rx_syntax.specs.Shape.{Shape, BlockStands, ListStands}
 use Rattle.rx_syntax.specs.declared.nodes.StmtId.{StmtId}
@@ -12,10 +12,7 @@ use Rattle.rx_control.specs.declared.control.Control.{Control}
 -- what a frame adds to the paths of the frames above it: the statement before the next is the one that they stand in
 abbrev pub numbers : Frame → List ℕ
 numbers (Seq block next part) = option_to_list part ++ (next - 1) ∷ []
-numbers (Turns body turn times) = []
-numbers (Try dead_only handler) = []
-numbers Body = []
-numbers Held = []
+numbers _ = []
 
 -- the path of the statement in which the frames above these stand
 abbrev pub path_of : List ℕ → List Frame → List ℕ
@@ -48,18 +45,7 @@ pub record StandsFor (s : Shape) (c : Control) (t : Term) : Type 0 where
 -- after a local step the control stands for the term that is left, with the variables that it leaves
 abbrev pub AfterLocalStep : Shape → Control → Does → Type 0
 AfterLocalStep s c (Local left vars) = StandsFor s c left × (c.vars ≡ vars)
-AfterLocalStep s c (Makes name words) = Unit {0}
-AfterLocalStep s c (Gets name target index) = Unit {0}
-AfterLocalStep s c (Puts target index value) = Unit {0}
-AfterLocalStep s c (Forgets target) = Unit {0}
-AfterLocalStep s c Opens = Unit {0}
-AfterLocalStep s c (Calls place) = Unit {0}
-AfterLocalStep s c (Spawns place) = Unit {0}
-AfterLocalStep s c (Waits faults) = Unit {0}
-AfterLocalStep s c Releases = Unit {0}
-AfterLocalStep s c (Prints value) = Unit {0}
-AfterLocalStep s c (Counts name) = Unit {0}
-AfterLocalStep s c (Done faults) = Unit {0}
+AfterLocalStep s c _ = Unit {0}
 
 -- two controls with the same parts
 pub record IsSame (a b : Control) : Type 0 where

@@ -65,15 +65,11 @@ still_away T r t x found free from to away on =
 
 -- acts of a task that moves
 abbrev pub Moves : Act → Type 0
-Moves (OpenAct s r path) = Unit {0}
-Moves (CallAct from to s r callee path) = Unit {0}
-Moves (SpawnAct child s from to path) = Unit {0}
-Moves (ArriveAct p) = Unit {0}
-Moves (WaitAct s thrown) = Unit {0}
 Moves (ReleaseAct s lost masked thrown) = ⊥
 Moves (EndAct thrown) = ⊥
 Moves (PrintAct value path) = ⊥
 Moves (CensusAct places path) = ⊥
+Moves _ = Unit {0}
 
 module _ (T : Tree) (r : Reached T) (t : TaskId) (ws : Waiters) (d : Due) (h : AllWait T ws d) where
   own_row : (act : Act) (may : AllowedAct T t act) → seat_told T t ≡ Some (seat_of T may.task)
@@ -112,10 +108,7 @@ module _ (T : Tree) (r : Reached T) (t : TaskId) (ws : Waiters) (d : Due) (h : A
       let y = seated (made_act T t act) t _ own in
       act_waits T r t act may y.task _ y.stands own (acts t act r may) (λ u low. tt) (omega arith) ws d
       (not_among T t may.task may.stands may.unstruck (not_waiting may.task may.asks.0.1.1) ws d h) h
-  moves_wait (ReleaseAct s lost masked thrown) may ok = absurd ok
-  moves_wait (EndAct thrown) may ok = absurd ok
-  moves_wait (PrintAct value path) may ok = absurd ok
-  moves_wait (CensusAct places path) may ok = absurd ok
+  moves_wait _ may ok = absurd ok
 
   -- a task that is none of those who wait releases its scope
   pub release_waits : (s : ScopeId) (lost : PlaceSet) (masked : ℕ) (thrown : List Fault) → AllowedAct T t (ReleaseAct s lost masked thrown) → NotAmong ws t → AllWait (made_act T t (ReleaseAct s lost masked thrown)) ws d

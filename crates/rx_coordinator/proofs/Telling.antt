@@ -25,15 +25,9 @@ use Rattle.rx_ledger.proofs.GoesOn.{found_changed, free_stays}
 
 -- the task that an act starts is not this one
 abbrev pub Starts : Act → TaskId → Type 0
-Starts (Open s r path) t = Unit {0}
 Starts (Calls from to s r callee path) t = callee.0 ≢ t.0
 Starts (Spawn child s from to path) t = child.0 ≢ t.0
-Starts (Arrive p) t = Unit {0}
-Starts (Wait s thrown) t = Unit {0}
-Starts (Release s lost masked thrown) t = Unit {0}
-Starts (End thrown) t = Unit {0}
-Starts (Print value path) t = Unit {0}
-Starts (Census places path) t = Unit {0}
+Starts _ t = Unit {0}
 
 -- one that was found where it was, with the scopes that it had
 inner_as : (T V : Tree) (t : TaskId) (x : Task) → task_of T t ≡ Some x → links V t ≡ links T t → inner V x ≡ inner T x

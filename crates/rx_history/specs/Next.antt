@@ -25,16 +25,6 @@ next_of (Done faults) = Ended
 
 -- the faults that a wait or an end carries
 abbrev pub carried : Does → Option (List Fault)
-carried (Local left vars) = None
-carried (Makes name words) = None
-carried (Gets name target index) = None
-carried (Puts target index value) = None
-carried (Forgets target) = None
-carried Opens = None
-carried (Calls place) = None
-carried (Spawns place) = None
 carried (Waits faults) = Some faults
-carried Releases = None
-carried (Prints value) = None
-carried (Counts name) = None
 carried (Done faults) = Some faults
+carried _ = None

@@ -5,7 +5,7 @@ use Rattle.std.proofs.lemmas.List.{get_or-set_same, get_or-set_other, get_or_def
 use Rattle.rx_base.proofs.Elements.{length-set}
 use Rattle.rx_rules.proofs.Common.{PlaceId, death_number}
 use Rattle.rx_rules.specs.declared.entries.Entry.{Entry}
-use Rattle.rx_rules.specs.declared.entries.Entry.TheVariants.{Step, Root, Death, Join}
+use Rattle.rx_rules.specs.declared.entries.Entry.TheVariants.{Death}
 use Rattle.rx_rules.proofs.Deaths.{death-push, first_of}
 use Rattle.rx_kills.specs.Deaths.{AreDeaths}
 use Rattle.rx_kills.specs.Inside.Noted.{with_death}
@@ -57,9 +57,7 @@ noted ds n p d low false is (Some k) x =
 one : (ds : List (Option ℕ)) (n p : ℕ) (e : Entry) → p < length ds
     → slice_index_or (with_death ds n e) p None ≡ first_of (slice_index_or ds p None) (death_number n (record { 0 = p }) (e ∷ []))
 one ds n p (Death d) low = noted ds n p d low (d.0 == p) refl (slice_index_or ds d.0 (Some 0)) refl
-one ds n p (Join d) low = nothing_after (slice_index_or ds p None)
-one ds n p (Step t act batch) low = nothing_after (slice_index_or ds p None)
-one ds n p (Root lost masked thrown) low = nothing_after (slice_index_or ds p None)
+one ds n p _ low = nothing_after (slice_index_or ds p None)
 
 long : (ds : List (Option ℕ)) (n : ℕ) (e : Entry) → length (with_death ds n e) ≡ length ds
 long ds n (Death d) = by (is_none (slice_index_or ds d.0 (Some 0)))
@@ -67,9 +65,7 @@ long ds n (Death d) = by (is_none (slice_index_or ds d.0 (Some 0)))
     by : (b : Bool) → length (cond b (slice_set ds d.0 (Some n)) ds) ≡ length ds
     by true = length-set ds d.0 (Some n)
     by false = refl
-long ds n (Join d) = refl
-long ds n (Step t act batch) = refl
-long ds n (Root lost masked thrown) = refl
+long ds n _ = refl
 
 -- one entry more
 pub deaths-next : (es : List Entry) (ds : List (Option ℕ)) (e : Entry) → AreDeaths es ds → AreDeaths (es ++ e ∷ []) (with_death ds (length es) e)

@@ -18,7 +18,7 @@ use Rattle.rx_ticket.specs.declared.tickets.AnyTicket.{AnyTicket}
 use Rattle.rx_ticket.specs.declared.tickets.AnyTicket.TheVariants.{Moving, Running, Held, Host}
 use Rattle.rx_ledger.specs.declared.asks.Request.{Request}
 use Rattle.rx_ledger.specs.declared.asks.Reply.{Reply}
-use Rattle.rx_ledger.specs.declared.asks.Reply.TheVariants.{Opened, Called, Spawned, Landed, Waits, Released, Ended, Printed, Census as Counted, RootDone, NotYet, Lost, NoMemory}
+use Rattle.rx_ledger.specs.declared.asks.Reply.TheVariants.{Called, Spawned}
 use Rattle.rx_ledger.specs.Told.{due_entries}
 use Rattle.rx_ledger.specs.Answering.{asker}
 use Rattle.rx_ledger.specs.Asking.{IsTravelling, IsRunning, IsHeld, IsHost, MayAskFor}
@@ -61,10 +61,8 @@ of_held (Held v) who P e h = same_caller v who P e h
 of_held Host who P e h = absurd h
 
 no_host : {C : Type 0} (t : AnyTicket) (who : Caller) → asker t ≡ Some who → IsHost t → C
-no_host (Moving v) who e h = absurd h
-no_host (Running v) who e h = absurd h
-no_host (Held v) who e h = absurd h
 no_host Host who e h = absurd (let both : None ≡ Some who = e in let v : ⊥ = cc in v)
+no_host _ who e h = absurd h
 
 asker_low : (T : Tree) (t : AnyTicket) (path : Option (List ℕ)) (ask : Ask) (who : Caller) → Reached T → asker t ≡ Some who → MayAskFor T t path ask → who.task.0 < T.next_task
 asker_low T t path Open who r e h = number_given T who _ r (of_running t who (MayAskMoving T) e h.0)
@@ -125,7 +123,6 @@ no_start : {C : Type 0} (t : AnyTicket) → None ≡ Some t → C
 no_start t s = absurd (let v : ⊥ = cc in v)
 
 pub started_are_new : StartedAreNew
-started_are_new k k' q (Opened ticket scope) t c hist h s e = no_start t s
 started_are_new k k' q (Called ticket callee) t c hist h s e =
     let a = h.answers in
     is_new k k' q (Called ticket callee) hist h a.who c _ a.child a.entry.allowed a.entry.added
@@ -134,13 +131,4 @@ started_are_new k k' q (Spawned ticket child) t c hist h s e =
     let a = h.answers in
     is_new k k' q (Spawned ticket child) hist h a.who c _ a.child a.entry.allowed a.entry.added
     (ticket_task (is_some (death_of (tree k k' q (Spawned ticket child) hist h) a.to)) _ _ _ c t a.child (sym s ∙ a.started_is) e refl refl) a.entry.allowed.asks.1
-started_are_new k k' q (Landed ticket) t c hist h s e = no_start t s
-started_are_new k k' q (Waits ticket) t c hist h s e = no_start t s
-started_are_new k k' q (Released ticket outcome) t c hist h s e = no_start t s
-started_are_new k k' q Ended t c hist h s e = no_start t s
-started_are_new k k' q (Printed ticket) t c hist h s e = no_start t s
-started_are_new k k' q (Counted ticket places) t c hist h s e = no_start t s
-started_are_new k k' q RootDone t c hist h s e = no_start t s
-started_are_new k k' q (NotYet place request) t c hist h s e = no_start t s
-started_are_new k k' q (Lost place at) t c hist h s e = no_start t s
-started_are_new k k' q (NoMemory request) t c hist h s e = no_start t s
+started_are_new k k' q _ t c hist h s e = no_start t s

@@ -183,18 +183,14 @@ module _ (n : ℕ) (T : Tree) (r : Reached T) (own : TaskId → Owned) (h : Told
       let low : u.0 < T.next_task = task_below T.next_task T.tasks u may.task (sound r).tasks_fall may.stands in
       let other : (u.0 == t.0) ≡ false = ne_eqb u.0 t.0 (λ e. absurd (omega (arith, grows, high, low, e))) in
       ap (λ (b : Bool). cond b (own_after act (own t)) (own t)) other ∙ none
-  entry_unborn (Root lost masked thrown) t may high = h.unborn t high
-  entry_unborn (Death d) t may high = h.unborn t high
-  entry_unborn (Join d) t may high = h.unborn t high
+  entry_unborn _ t may high = h.unborn t high
 
   told_entry : (e : Entry) → Allowed T e → ToldOwn (made n T e) (λ t. own_from t (own t) (e ∷ []))
   told_entry e may = record { each = λ t y found. entry_each e t y may found; unborn = λ t high. entry_unborn e t may high }
 
 own_split : (t : TaskId) (own : Owned) (e : Entry) (es : List Entry) → own_from t (own_from t own (e ∷ [])) es ≡ own_from t own (e ∷ es)
 own_split t own (Step u act batch) es = refl
-own_split t own (Root lost masked thrown) es = refl
-own_split t own (Death d) es = refl
-own_split t own (Join d) es = refl
+own_split t own _ es = refl
 
 told_from : (n : ℕ) (T : Tree) (es : List Entry) (own : TaskId → Owned) (t : TaskId) (x : Task) → Reached T → All (IsOlder n) T.dead → AllAllowed n T es → ToldOwn T own → task_of (fold_from n T es) t ≡ Some x → owned (fold_from n T es) t ≡ own_from t (own t) es
 told_from n T [] own t x r o may h found = h.each t x found

@@ -11,7 +11,7 @@ use Rattle.rx_finish.specs.Callers.{MayAsk, MayAskTo, IsMoving, Travels, HasFini
 use Rattle.rx_ticket.specs.declared.tickets.AnyTicket.{AnyTicket}
 use Rattle.rx_ticket.specs.declared.tickets.AnyTicket.TheVariants.{Moving, Running, Held, Host}
 use Rattle.rx_history.specs.declared.asks.Ask.{Ask}
-use Rattle.rx_history.specs.declared.asks.Ask.TheVariants.{Open, At as Calls, Spawn, Arrive, Wait, Release, End, Print, Root, Census}
+use Rattle.rx_history.specs.declared.asks.Ask.TheVariants.{At as Calls, Spawn, Arrive, Wait, Release, End, Root}
 use Rattle.rx_ledger.specs.Asking.{MayAskFor, IsTravelling as Moves, IsRunning, IsHeld}
 use Rattle.rx_kills.specs.declared.schedule.Due.{Due}
 use Rattle.rx_kills.specs.declared.schedule.Due.TheVariants.{Join as Joins, Death as Dies}
@@ -78,16 +78,14 @@ module _ (b : Blow) (T : Tree) where
   to-on who to h = record { asks = asks-on who IsMoving IsMoving moving-on h.asks; target = h.target }
 
   may-on : (t : AnyTicket) (path : Option (List ℕ)) (a : Ask) → MayAskFor T t path a → MayAskFor (strike b T) t path a
-  may-on t path Open h = (running-on t _ _ (λ who. asks-on who IsMoving IsMoving moving-on) h.0, h.1)
   may-on t path (Calls to) h = (running-on t _ _ (λ who. to-on who to) h.0, h.1)
   may-on t path (Spawn to) h = (running-on t _ _ (λ who. to-on who to) h.0, h.1)
   may-on t path Arrive h = (moves-on t _ _ (λ who. asks-on who Travels Travels travels-on) h.0, h.1)
   may-on t path (Wait thrown) h = (running-on t _ _ (λ who. asks-on who (HasFinish T who) (HasFinish (strike b T) who) (finish-on who)) h.0, h.1)
   may-on t path Release h = (held-on t _ _ (λ who. asks-on who (WaitsInside T who) (WaitsInside (strike b T) who) (waits-on who)) h.0, h.1)
   may-on t path (End thrown) h = (running-on t _ _ (λ who. asks-on who (IsBare T who) (IsBare (strike b T) who) (bare-on who)) h.0, h.1)
-  may-on t path (Print value) h = (running-on t _ _ (λ who. asks-on who IsMoving IsMoving moving-on) h.0, h.1)
-  may-on t path Census h = (running-on t _ _ (λ who. asks-on who IsMoving IsMoving moving-on) h.0, h.1)
   may-on t path Root h = h
+  may-on t path _ h = (running-on t _ _ (λ who. asks-on who IsMoving IsMoving moving-on) h.0, h.1)
 
 -- After a join.
 
@@ -115,16 +113,14 @@ module _ (T : Tree) where
   wider-bare who x h = record { moving = h.moving; none_open = h.none_open }
 
   wider : (t : AnyTicket) (path : Option (List ℕ)) (a : Ask) → MayAskFor T t path a → MayAskFor (widened T) t path a
-  wider t path Open h = (running-on t _ _ (λ who. wider-asks who IsMoving IsMoving (λ x m. m)) h.0, h.1)
   wider t path (Calls to) h = (running-on t _ _ (λ who. wider-to who to) h.0, h.1)
   wider t path (Spawn to) h = (running-on t _ _ (λ who. wider-to who to) h.0, h.1)
   wider t path Arrive h = (moves-on t _ _ (λ who. wider-asks who Travels Travels (λ x m. m)) h.0, h.1)
   wider t path (Wait thrown) h = (running-on t _ _ (λ who. wider-asks who (HasFinish T who) (HasFinish (widened T) who) (wider-finish who)) h.0, h.1)
   wider t path Release h = (held-on t _ _ (λ who. wider-asks who (WaitsInside T who) (WaitsInside (widened T) who) (wider-waits who)) h.0, h.1)
   wider t path (End thrown) h = (running-on t _ _ (λ who. wider-asks who (IsBare T who) (IsBare (widened T) who) (wider-bare who)) h.0, h.1)
-  wider t path (Print value) h = (running-on t _ _ (λ who. wider-asks who IsMoving IsMoving (λ x m. m)) h.0, h.1)
-  wider t path Census h = (running-on t _ _ (λ who. wider-asks who IsMoving IsMoving (λ x m. m)) h.0, h.1)
   wider t path Root h = h
+  wider t path _ h = (running-on t _ _ (λ who. wider-asks who IsMoving IsMoving (λ x m. m)) h.0, h.1)
 
 -- and so after any deaths and joins
 pub may-after : (n : ℕ) (T : Tree) (ds : List Due) (t : AnyTicket) (path : Option (List ℕ)) (a : Ask) → MayAskFor T t path a → MayAskFor (fold_from n T (due_entries ds)) t path a

@@ -1,7 +1,7 @@
 -- The law of asking.
 use Rattle.std.proofs.Common.{◌≡◌, ℕ, ◌<◌, ◌≤◌, Bool, List, [], ◌∷◌, ◌++◌, map, reverse, refl, ap, ◌∙◌, sym, subst}
 use Rattle.std.proofs.lemmas.List.{reverse-append, reverse-reverse}
-use Rattle.rx_rules.proofs.Common.{ScopeId, Fault, Vars, Term, Does, Local, Makes, Gets, Puts, Forgets, Opens, Calls, Spawns, Waits, Releases, Prints, Counts, Done, does, granted, Tree, tree_of, Given, Folds}
+use Rattle.rx_rules.proofs.Common.{ScopeId, Fault, Vars, Term, Does, Opens, Calls, Spawns, Waits, Releases, Prints, Counts, Done, does, granted, Tree, tree_of, Given, Folds}
 use Rattle.rx_rules.specs.declared.tasks.Kind.{Kind}
 use Rattle.rx_rules.specs.declared.tasks.Kind.TheVariants.{Finish}
 use Rattle.rx_rules.specs.declared.entries.Entry.{Entry}
@@ -73,11 +73,7 @@ module _ (U : Given) (es : List Entry) (who : Caller) (here : ℕ) (vars : Vars)
   asks (Prints value) is = free (Prints value) is (λ f. let g : ⊥ = cc f in g)
   asks (Counts name) is = free (Counts name) is (λ f. let g : ⊥ = cc f in g)
   asks (Done faults) is = may_end faults is (free (Done faults) is (λ f. let g : ⊥ = cc f in g))
-  asks (Local left more) is = tt
-  asks (Makes name words) is = tt
-  asks (Gets name target index) is = tt
-  asks (Puts target index value) is = tt
-  asks (Forgets target) is = tt
+  asks _ is = tt
 
 pub law_of_asking : LawOfAsking
 law_of_asking U es who here vars t folds low known spine serves = asks U es who here vars t folds low known spine serves (does vars here t) refl

@@ -32,10 +32,8 @@ IsHeld Host P = ⊥
 
 -- the host asks
 abbrev pub IsHost : AnyTicket → Type 0
-IsHost (Moving who) = ⊥
-IsHost (Running who) = ⊥
-IsHost (Held who) = ⊥
 IsHost Host = Unit {0}
+IsHost _ = ⊥
 
 -- there is a path
 abbrev pub HasPath : Option (List ℕ) → Type 0

@@ -8,9 +8,8 @@ use Rattle.rx_finish.specs.Callers.{HasNumbers}
 use Rattle.rx_ticket.specs.declared.tickets.AnyTicket.{AnyTicket}
 use Rattle.rx_ledger.specs.declared.asks.Request.{Request}
 use Rattle.rx_ledger.specs.declared.asks.Reply.{Reply}
-use Rattle.rx_ledger.specs.declared.asks.Reply.TheVariants.{Opened, Called, Spawned, Landed}
-use Rattle.rx_ledger.specs.declared.asks.Reply.TheVariants.{Waits, Released, Ended, Printed, Census as Counted}
-use Rattle.rx_ledger.specs.declared.asks.Reply.TheVariants.{RootDone, NotYet, Lost, NoMemory}
+use Rattle.rx_ledger.specs.declared.asks.Reply.TheVariants.{Opened, Called}
+use Rattle.rx_ledger.specs.declared.asks.Reply.TheVariants.{Released}
 use Rattle.rx_ledger.specs.Asking.{MayApply}
 use Rattle.rx_ledger.specs.Answering.{asker}
 use Rattle.rx_ledger.specs.Kept.{KeeperView, Applied, IsHistory}
@@ -42,17 +41,8 @@ CallsKeepOthers =
 abbrev pub owned_by : Reply → Owned → Owned
 owned_by (Opened ticket scope) own = (scope, Finish) ∷ own
 owned_by (Called ticket callee) own = (ticket.inner, Call) ∷ own
-owned_by (Spawned ticket child) own = own
-owned_by (Landed ticket) own = own
-owned_by (Waits ticket) own = own
 owned_by (Released ticket outcome) own = drop 1 own
-owned_by Ended own = own
-owned_by (Printed ticket) own = own
-owned_by (Counted ticket places) own = own
-owned_by RootDone own = own
-owned_by (NotYet place request) own = own
-owned_by (Lost place at) own = own
-owned_by (NoMemory request) own = own
+owned_by _ own = own
 
 -- those of the caller, as its entries tell them
 abbrev pub CallsOwn : Type 0

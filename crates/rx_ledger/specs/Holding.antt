@@ -4,8 +4,8 @@ use Rattle.rx_ticket.specs.declared.tickets.AnyTicket.{AnyTicket}
 use Rattle.rx_ticket.specs.declared.tickets.AnyTicket.TheVariants.{Running, Held}
 use Rattle.rx_ledger.specs.declared.asks.Reply.{Reply}
 use Rattle.rx_ledger.specs.declared.asks.Reply.TheVariants.{Opened, Called, Spawned, Landed}
-use Rattle.rx_ledger.specs.declared.asks.Reply.TheVariants.{Waits, Released, Ended, Printed, Census as Counted}
-use Rattle.rx_ledger.specs.declared.asks.Reply.TheVariants.{RootDone, NotYet, Lost, NoMemory}
+use Rattle.rx_ledger.specs.declared.asks.Reply.TheVariants.{Waits, Released, Printed, Census as Counted}
+use Rattle.rx_ledger.specs.declared.asks.Reply.TheVariants.{NotYet, NoMemory}
 
 -- that of the task which asked, also in a request that comes back
 abbrev pub asking_in : Reply → Option AnyTicket
@@ -15,26 +15,14 @@ asking_in (Spawned ticket child) = Some (Running ticket)
 asking_in (Landed ticket) = Some (Running ticket)
 asking_in (Waits ticket) = Some (Held ticket)
 asking_in (Released ticket outcome) = Some (Running ticket)
-asking_in Ended = None
 asking_in (Printed ticket) = Some (Running ticket)
 asking_in (Counted ticket places) = Some (Running ticket)
-asking_in RootDone = None
 asking_in (NotYet place request) = Some request.ticket
-asking_in (Lost place at) = None
 asking_in (NoMemory request) = Some request.ticket
+asking_in _ = None
 
 -- that of the task which was started, unless it is born struck
 abbrev pub started_in : Reply → Option AnyTicket
-started_in (Opened ticket scope) = None
 started_in (Called ticket callee) = callee
 started_in (Spawned ticket child) = child
-started_in (Landed ticket) = None
-started_in (Waits ticket) = None
-started_in (Released ticket outcome) = None
-started_in Ended = None
-started_in (Printed ticket) = None
-started_in (Counted ticket places) = None
-started_in RootDone = None
-started_in (NotYet place request) = None
-started_in (Lost place at) = None
-started_in (NoMemory request) = None
+started_in _ = None

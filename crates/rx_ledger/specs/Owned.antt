@@ -3,7 +3,7 @@ use Rattle.std.specs.Prelude.{◌≡◌, ℕ, ◌+◌, ◌<◌, ◌^◌, ◌==�
 use Rattle.rx_base.specs.declared.ids.TaskId.{TaskId}
 use Rattle.rx_base.specs.declared.ids.ScopeId.{ScopeId}
 use Rattle.rx_rules.specs.declared.entries.Act.{Act}
-use Rattle.rx_rules.specs.declared.entries.Act.TheVariants.{Open, At as Calls, Spawn, Arrive, Wait, Release, End, Print, Census}
+use Rattle.rx_rules.specs.declared.entries.Act.TheVariants.{Open, At as Calls, Release}
 use Rattle.rx_rules.specs.declared.entries.Entry.{Entry}
 use Rattle.rx_rules.specs.declared.entries.Entry.TheVariants.{Step, Root, Death, Join}
 use Rattle.rx_rules.specs.declared.tasks.Kind.{Kind}
@@ -27,13 +27,8 @@ sort_of g = (g.number, g.kind)
 abbrev pub own_after : Act → Owned → Owned
 own_after (Open s r path) own = (s, Finish) ∷ own
 own_after (Calls from to s r callee path) own = (s, Call) ∷ own
-own_after (Spawn child s from to path) own = own
-own_after (Arrive p) own = own
-own_after (Wait s thrown) own = own
 own_after (Release s lost masked thrown) own = drop 1 own
-own_after (End thrown) own = own
-own_after (Print value path) own = own
-own_after (Census places path) own = own
+own_after _ own = own
 
 -- the scopes of a task after the entries
 abbrev pub own_from : TaskId → Owned → List Entry → Owned

@@ -2,7 +2,7 @@
 use Rattle.std.specs.Prelude.{◌≢◌, ℕ, List, ◌++◌}
 use Rattle.rx_base.specs.declared.ids.TaskId.{TaskId}
 use Rattle.rx_rules.specs.declared.entries.Entry.{Entry}
-use Rattle.rx_rules.specs.declared.entries.Entry.TheVariants.{Step, Root, Death, Join}
+use Rattle.rx_rules.specs.declared.entries.Entry.TheVariants.{Step}
 use Rattle.rx_rules.specs.Tree.{Tree}
 use Rattle.rx_rules.specs.Entries.{Allowed, made}
 use Rattle.rx_rules.specs.Fold.{tree_of}
@@ -18,9 +18,7 @@ use Rattle.rx_ledger.specs.Asking.{MayApply}
 -- the entry is another task's, or a death, or the root's release
 abbrev pub NotBy : TaskId → Entry → Type 0
 NotBy t (Step u act batch) = t.0 ≢ u.0
-NotBy t (Root lost masked thrown) = Unit {0}
-NotBy t (Death d) = Unit {0}
-NotBy t (Join d) = Unit {0}
+NotBy t _ = Unit {0}
 
 -- it is not of the task whose ticket this is
 abbrev pub NotOf : AnyTicket → Entry → Type 0

@@ -12,7 +12,7 @@ use Rattle.rx_tree_laws.proofs.Enabling.{inner_is}
 use Rattle.rx_finish.specs.Callers.{HasRoot}
 use Rattle.rx_finish.specs.declared.ledger.Outcome.{Outcome}
 use Rattle.rx_coordinator.specs.declared.requests.Request.{Request}
-use Rattle.rx_coordinator.specs.declared.requests.Request.TheVariants.{Open, At, Spawn, Send, Arrive, Wait, Release, End, Death, Join, Root}
+use Rattle.rx_coordinator.specs.declared.requests.Request.TheVariants.{Send, Release, Root}
 use Rattle.rx_coordinator.specs.declared.requests.Answer.{Answer}
 use Rattle.rx_coordinator.specs.declared.requests.Answer.TheVariants.{Released, RootDone}
 use Rattle.rx_coordinator.specs.declared.waiters.Waiter.{Waiter}
@@ -37,17 +37,10 @@ module _ (T : Tree) where
   root_may _ e h k = absurd h
 
   pub may_told : (q : Request) (a : Answer) (e : Entry) → Told T q a e → Allowed T e → May T q
-  may_told (Open t) a e h k = (a, e, h, k)
-  may_told (At t to) a e h k = (a, e, h, k)
-  may_told (Spawn t to) a e h k = (a, e, h, k)
   may_told (Send t to) a e h k = absurd (none_sent T t to a e h)
-  may_told (Arrive t) a e h k = (a, e, h, k)
-  may_told (Wait t thrown) a e h k = (a, e, h, k)
   may_told (Release t) a e h k = release_may t a e h k
-  may_told (End t thrown) a e h k = (a, e, h, k)
-  may_told (Death d) a e h k = (a, e, h, k)
-  may_told Join a e h k = (a, e, h, k)
   may_told Root a e h k = root_may a e h k
+  may_told _ a e h k = (a, e, h, k)
 
   -- a task that releases its scope works there
   inside : (t : TaskId) (o : Outcome) (e : Entry) → (h : Told T (Release t) (Released o) e) → (k : Allowed T e) → (x : Task)

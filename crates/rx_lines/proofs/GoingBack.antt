@@ -7,7 +7,7 @@ use Rattle.rx_base.proofs.SameIds.{task-is}
 use Rattle.rx_rules.specs.declared.tasks.Scope.{Scope}
 use Rattle.rx_rules.specs.declared.tasks.Blow.{Blow}
 use Rattle.rx_rules.specs.declared.entries.Act.{Act}
-use Rattle.rx_rules.specs.declared.entries.Act.TheVariants.{Open, At as Calls, Spawn, Arrive, Wait, Release, End, Print, Census}
+use Rattle.rx_rules.specs.declared.entries.Act.TheVariants.{At as Calls, Spawn}
 use Rattle.rx_rules.specs.declared.entries.Entry.{Entry}
 use Rattle.rx_rules.specs.declared.entries.Entry.TheVariants.{Step, Root as RootEntry, Death, Join}
 use Rattle.rx_tree_laws.specs.Chains.{meets}
@@ -53,15 +53,9 @@ module _ (T : Tree) (r : Reached T) where
 
   -- who was born is not started
   no-start : (t u : TaskId) (act : Act) → AllowedAct T t act → u.0 < T.next_task → Starts act u
-  no-start t u (Open s q path) may low = tt
   no-start t u (Calls from to s q callee path) may low = (let next : callee.0 ≡ T.next_task = may.asks.3 in λ e. absurd (omega (arith, e, low, next)))
   no-start t u (Spawn child s from to path) may low = (let next : child.0 ≡ T.next_task = may.asks.1 in λ e. absurd (omega (arith, e, low, next)))
-  no-start t u (Arrive p) may low = tt
-  no-start t u (Wait s thrown) may low = tt
-  no-start t u (Release s lost masked thrown) may low = tt
-  no-start t u (End thrown) may low = tt
-  no-start t u (Print value path) may low = tt
-  no-start t u (Census places path) may low = tt
+  no-start t u _ may low = tt
 
   act-back : (t : TaskId) (act : Act) → AllowedAct T t act → Back T (made_act T t act)
   act-back t act may = record { task = by; root = λ h. acting-root t act may } where

@@ -2,7 +2,7 @@
 use Rattle.std.proofs.Common.{◌≡◌, ◌≢◌, ℕ, ◌<◌, Bool, true, false, List, [], ◌∷◌, ◌++◌, length, Option, Some, None, slice_get, slice_set, refl, ap, ◌∙◌, sym, subst, inl, inr}
 use Rattle.std.proofs.lemmas.List.{append-nil, length-set}
 use Rattle.std.proofs.lemmas.Option.{slice_get_within}
-use Rattle.rx_rules.proofs.Common.{PlaceId, TaskId, Block, Vars, Does, Local, Makes, Gets, Puts, Forgets, Opens, Calls, Spawns, Waits, Releases, Prints, Counts, Done, does, Tree, AllowedAct, made_act, State, vars_told, started_by, tree_of, Given, Game, Player, Turn, moves, turns, tree_in, child_of, acted as played}
+use Rattle.rx_rules.proofs.Common.{PlaceId, TaskId, Block, Vars, Does, Counts, does, Tree, AllowedAct, made_act, State, vars_told, started_by, tree_of, Given, Game, Player, Turn, moves, turns, tree_in, child_of, acted as played}
 use Rattle.rx_base.proofs.Elements.{get-set}
 use Rattle.rx_rules.specs.declared.tasks.Task.{Task}
 use Rattle.rx_rules.specs.declared.entries.Act.{Act}
@@ -43,18 +43,7 @@ told-nothing (Counts name) (Release s lost masked thrown) vars h = refl
 told-nothing (Counts name) (End thrown) vars h = refl
 told-nothing (Counts name) (Print value path) vars h = refl
 told-nothing (Counts name) (Census n path) vars h = absurd (let f : ⊥ = cc in f)
-told-nothing (Local after left) act vars h = refl
-told-nothing (Makes name words) act vars h = refl
-told-nothing (Gets name target index) act vars h = refl
-told-nothing (Puts target index value) act vars h = refl
-told-nothing (Forgets target) act vars h = refl
-told-nothing Opens act vars h = refl
-told-nothing (Calls place) act vars h = refl
-told-nothing (Spawns place) act vars h = refl
-told-nothing (Waits faults) act vars h = refl
-told-nothing Releases act vars h = refl
-told-nothing (Prints value) act vars h = refl
-told-nothing (Done faults) act vars h = refl
+told-nothing _ act vars h = refl
 
 -- the game after the entry
 abbrev pub game_after : Game → TaskId → PlaceId → Player → State → List PlaceEvent → Act → Game

@@ -12,33 +12,14 @@ use Rattle.rx_machine.specs.Inside.Requests.{AsksOrEnds, IsRequest}
 
 pub asks_no_local : (d : Does) → AsksOrEnds d → next_of d ≡ LocalStep → ⊥
 asks_no_local (Local left vars) a h = a
-asks_no_local (Makes name words) a h = cc
-asks_no_local (Gets name target index) a h = cc
-asks_no_local (Puts target index value) a h = cc
-asks_no_local (Forgets target) a h = cc
-asks_no_local Opens a h = cc
-asks_no_local (Calls place) a h = cc
-asks_no_local (Spawns place) a h = cc
-asks_no_local (Waits faults) a h = cc
-asks_no_local Releases a h = cc
-asks_no_local (Prints value) a h = cc
-asks_no_local (Counts name) a h = cc
-asks_no_local (Done faults) a h = cc
+asks_no_local _ a h = cc
 
 pub asks_no_cell : (d : Does) (op : CellOp) → AsksOrEnds d → next_of d ≡ Cell op → ⊥
-asks_no_cell (Local left vars) op a h = cc
 asks_no_cell (Makes name words) op a h = a
 asks_no_cell (Gets name target index) op a h = a
 asks_no_cell (Puts target index value) op a h = a
 asks_no_cell (Forgets target) op a h = a
-asks_no_cell Opens op a h = cc
-asks_no_cell (Calls place) op a h = cc
-asks_no_cell (Spawns place) op a h = cc
-asks_no_cell (Waits faults) op a h = cc
-asks_no_cell Releases op a h = cc
-asks_no_cell (Prints value) op a h = cc
-asks_no_cell (Counts name) op a h = cc
-asks_no_cell (Done faults) op a h = cc
+asks_no_cell _ op a h = cc
 
 -- the same of what was told
 pub told_open : (n : Next) (d : Does) (w : Want) → IsRequest n d → n ≡ Book w → w ≡ Open → d ≡ Opens

@@ -5,9 +5,9 @@ use Rattle.rx_rules.specs.declared.tasks.Task.{Task}
 use Rattle.rx_rules.specs.declared.tasks.Kind.{Kind}
 use Rattle.rx_rules.specs.declared.tasks.Where.TheVariants.{At}
 use Rattle.rx_rules.specs.declared.entries.Act.{Act}
-use Rattle.rx_rules.specs.declared.entries.Act.TheVariants.{Open, At as CallsAt, Spawn, Arrive, Wait, Release, End, Print, Census}
+use Rattle.rx_rules.specs.declared.entries.Act.TheVariants.{At as CallsAt, Spawn}
 use Rattle.rx_rules.specs.declared.entries.Entry.{Entry}
-use Rattle.rx_rules.specs.declared.entries.Entry.TheVariants.{Step, Root, Death, Join}
+use Rattle.rx_rules.specs.declared.entries.Entry.TheVariants.{Step}
 use Rattle.rx_rules.specs.Tree.{Tree, task_of, inner, opened_by, the_root}
 use Rattle.rx_rules.specs.Entries.{is_hit}
 use Rattle.rx_rules.specs.Picked.{Player}
@@ -63,20 +63,12 @@ own_kinds T n = map (λ g. g.kind) (filter (opened_by (record { 0 = n })) T.scop
 abbrev pub act_starts : Act → Option (List ℕ)
 act_starts (Spawn child s from to path) = Some path
 act_starts (CallsAt from to s r callee path) = Some path
-act_starts (Open s r path) = None
-act_starts (Arrive place) = None
-act_starts (Wait s thrown) = None
-act_starts (Release s lost masked thrown) = None
-act_starts (End thrown) = None
-act_starts (Print value path) = None
-act_starts (Census places path) = None
+act_starts _ = None
 
 -- the same of an entry
 abbrev pub entry_starts : Entry → Option (List ℕ)
 entry_starts (Step t act batch) = act_starts act
-entry_starts (Root lost masked thrown) = None
-entry_starts (Death place) = None
-entry_starts (Join place) = None
+entry_starts _ = None
 
 -- the entry of a number starts a task by the statement with this path
 abbrev pub StartsBy : List Entry → ℕ → List ℕ → Type 0

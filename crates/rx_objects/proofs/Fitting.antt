@@ -5,7 +5,7 @@ use Rattle.std.proofs.Math.Seq.{drop-length}
 use mathlib.Core.List.{IsPrefix}
 use Rattle.rx_rules.proofs.Common.{TaskId, Block, Term, Does, Cells, Given, Folds}
 use Rattle.rx_rules.specs.declared.entries.Entry.{Entry}
-use Rattle.rx_rules.specs.declared.entries.Entry.TheVariants.{Step, Root, Death, Join}
+use Rattle.rx_rules.specs.declared.entries.Entry.TheVariants.{Step}
 use Rattle.rx_rules.specs.declared.events.PlaceEvent.{PlaceEvent}
 use Rattle.rx_tree_laws.specs.Sound.{Each}
 use Rattle.rx_finish.specs.declared.ledger.Caller.{Caller}
@@ -14,7 +14,7 @@ use Rattle.rx_ticket.specs.declared.tickets.AnyTicket.TheVariants.{Moving, Runni
 use Rattle.rx_syntax.specs.Shape.{Stands}
 use Rattle.rx_history.specs.Setups.{given}
 use Rattle.rx_history.specs.declared.asks.Ask.{Ask}
-use Rattle.rx_history.specs.declared.asks.Ask.TheVariants.{Open as AskOpen, At as AskCall, Spawn as AskSpawn, Arrive as AskArrive, Wait as AskWait, Release as AskRelease, End as AskEnd, Print as AskPrint, Root as AskRoot, Census as AskCensus}
+use Rattle.rx_history.specs.declared.asks.Ask.TheVariants.{Arrive as AskArrive, Root as AskRoot}
 use Rattle.rx_book.specs.declared.views.Stamped.{Stamped}
 use Rattle.rx_book.specs.declared.views.View.{View}
 use Rattle.rx_book.specs.declared.passes.Note.{Note}
@@ -57,9 +57,7 @@ use Rattle.rx_objects.proofs.Places.{journal_same, carried_same, prefix_items}
 
 not_by : (t : TaskId) (e : Entry) → is_of t.0 e ≡ false → NotBy t e
 not_by t (Step u act batch) h = λ w. let s : is_of t.0 (Step u act batch) ≡ true = of_own t.0 (Step u act batch) u act batch refl (sym w) in let f : ⊥ = cc (h, s) in f
-not_by t (Root lost masked thrown) h = tt
-not_by t (Death d) h = tt
-not_by t (Join d) h = tt
+not_by t _ h = tt
 
 spared : (ticket : AnyTicket) (t : TaskId) → ((e : Entry) → NotBy t e → NotOf ticket e) → (more : List LedgerItem) → NoneOf t.0 more → Each (NotOf ticket) (entries_of more)
 spared ticket t to [] h = tt
@@ -122,22 +120,13 @@ module _ (code : Block) (U : Given) (g more : List LedgerItem) (c : List ℕ) (s
       }
 
   asked : (ev : Cells) (batch : List (List ℕ)) (o : Option Caller) (path : Option (List ℕ)) (a : Ask) → AskIsMade short.actors n c ev batch o path a → AskIsMade long.actors m c ev batch o path a
-  asked ev batch o path AskOpen r = requests ev batch o _ r
-  asked ev batch o path (AskCall to) r = requests ev batch o _ r
-  asked ev batch o path (AskSpawn to) r = requests ev batch o _ r
   asked ev batch o path AskArrive r = comes ev batch o r
-  asked ev batch o path (AskWait thrown) r = requests ev batch o _ r
-  asked ev batch o path AskRelease r = requests ev batch o _ r
-  asked ev batch o path (AskEnd thrown) r = requests ev batch o _ r
-  asked ev batch o path (AskPrint value) r = requests ev batch o _ r
   asked ev batch o path AskRoot r = tt
-  asked ev batch o path AskCensus r = requests ev batch o _ r
+  asked ev batch o path _ r = requests ev batch o _ r
 
 at_other : (t : ℕ) (e : Entry) (cells : Cells) → is_of t e ≡ false → cells_at t e cells ≡ []
 at_other t (Step u act batch) cells h = ap (λ (b : Bool). cond b cells []) h
-at_other t (Root lost masked thrown) cells h = refl
-at_other t (Death d) cells h = refl
-at_other t (Join d) cells h = refl
+at_other t _ cells h = refl
 
 none_named : (t : ℕ) (more : List (Stamped EntryItem)) → NoneOf t (ledger_items more) → cells_named t (items_of more) ≡ []
 none_named t [] h = refl

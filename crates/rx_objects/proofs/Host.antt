@@ -33,10 +33,8 @@ use Rattle.rx_objects.proofs.Leaving.{entries_mapped}
 -- Histories without the root's release.
 
 no_root_rest : (e : Entry) (es : List Entry) → NoRoot (e ∷ es) → NoRoot es
-no_root_rest (Step t act batch) es h = h
 no_root_rest (Root lost masked thrown) es h = absurd h
-no_root_rest (Death d) es h = h
-no_root_rest (Join d) es h = h
+no_root_rest _ es h = h
 
 no_root_both : (es fs : List Entry) → NoRoot es → NoRoot fs → NoRoot (es ++ fs)
 no_root_both [] fs h k = k
@@ -57,14 +55,12 @@ no_root_if false x l h = h
 -- where the root's release is last, and is the host's, it stands among the host's entries
 by_entry : (x : Stamped EntryItem) (log : List (Stamped EntryItem)) → NoRoot (entries_at (entries_by host_number (x ∷ log))) → (EndsWithRoot (entries_at log) → ⊥)
     → (y : Entry) → x.item.entry ≡ y → EndsWithRoot (y ∷ entries_at log) → IsHosts x.by y → ⊥
-by_entry x log n rest (Step t act batch) is e own = rest e
-by_entry x log n rest (Death d) is e own = rest e
-by_entry x log n rest (Join d) is e own = rest e
 by_entry x log n rest (Root lost masked thrown) is e own =
     let mine : is_same x.by host_number ≡ true = ap (λ (c : List ℕ). is_same c host_number) own in
     let there : NoRoot (x.item.entry ∷ entries_at (entries_by host_number log)) =
     subst (λ (b : Bool). NoRoot (entries_at (if b then x ∷ entries_by host_number log else entries_by host_number log))) mine n in
     subst (λ (y : Entry). NoRoot (y ∷ entries_at (entries_by host_number log))) is there
+by_entry x log n rest _ is e own = rest e
 
 by_host : (log : List (Stamped EntryItem)) → EndsWithRoot (entries_at log) → HostReleases log → NoRoot (entries_at (entries_by host_number log)) → ⊥
 by_host [] e h n = e

@@ -3,7 +3,7 @@ use Rattle.std.proofs.Common.{nat_le, ◌≡◌, ◌≢◌, ℕ, ◌<◌, ◌==�
 use Rattle.std.proofs.lemmas.Bool.{ne_eqb}
 use Rattle.std.proofs.lemmas.Bool.Decides.{leb_tells}
 use Rattle.rx_rules.specs.declared.entries.Entry.{Entry}
-use Rattle.rx_rules.specs.declared.entries.Entry.TheVariants.{Step, Root, Death, Join}
+use Rattle.rx_rules.specs.declared.entries.Entry.TheVariants.{Death}
 use Rattle.rx_book.specs.History.{has_death, is_place}
 use Rattle.rx_chronicle.specs.Told.{dies_in}
 use Rattle.rx_parts.specs.declared.items.EntryItem.{EntryItem}
@@ -21,10 +21,8 @@ same_place d p h = at (nat_le d 15) refl where
       ne_eqb d p other
 
 at_entry : (p : ℕ) → p < 16 → (e : Entry) (es : List Entry) (b : Bool) → dies_in p es ≡ b → dies_in p (e ∷ es) ≡ (is_place p (place_shown e) || b)
-at_entry p h (Step t act batch) es b e = e
-at_entry p h (Root lost masked thrown) es b e = e
 at_entry p h (Death d) es b e = (λ i. same_place d.0 p h i || e i)
-at_entry p h (Join d) es b e = e
+at_entry p h _ es b e = e
 
 pub deaths_same : (p : ℕ) → p < 16 → (xs : List EntryItem) → dies_in p (entries_in xs) ≡ has_death (λ (x : EntryItem). place_shown x.entry) p xs
 deaths_same p h [] = refl

@@ -7,7 +7,7 @@ use mathlib.Core.List.{IsPrefix}
 use Rattle.rx_rules.proofs.Common.{PlaceId, Block, Cells, Birth, cell_of, journal_at, Given}
 use Rattle.rx_base.proofs.Prefixes.{prefix-trans}
 use Rattle.rx_rules.specs.declared.entries.Entry.{Entry}
-use Rattle.rx_rules.specs.declared.entries.Entry.TheVariants.{Step, Root, Death, Join}
+use Rattle.rx_rules.specs.declared.entries.Entry.TheVariants.{Step}
 use Rattle.rx_runs.proofs.Pairs.{journal_got}
 use Rattle.rx_book.specs.declared.views.Stamped.{Stamped}
 use Rattle.rx_book.specs.declared.passes.Note.{Note}
@@ -29,9 +29,7 @@ use Rattle.rx_objects.specs.Laws.{HasBeginning, NotesBegin, NotedAreNamed}
 
 at_entry : (n : ℕ) (e : Entry) (cells : Cells) → cond (is_of n e) cells [] ≡ cells_at n e cells
 at_entry n (Step u act batch) cells = refl
-at_entry n (Root lost masked thrown) cells = refl
-at_entry n (Death d) cells = refl
-at_entry n (Join d) cells = refl
+at_entry n _ cells = refl
 
 -- what the plain list names for a task, the items name
 pub named_same : (n : ℕ) (h : List (Stamped EntryItem)) → named_by (ledger_items h) n ≡ cells_named n (items_of h)

@@ -6,7 +6,7 @@ use Rattle.std.proofs.lemmas.Bool.{eqb-true}
 use Rattle.rx_rules.proofs.Common.{PlaceId, Cells, Tree}
 use Rattle.rx_rules.specs.declared.entries.Act.{Act}
 use Rattle.rx_rules.specs.declared.entries.Entry.{Entry}
-use Rattle.rx_rules.specs.declared.entries.Entry.TheVariants.{Step, Root, Death, Join}
+use Rattle.rx_rules.specs.declared.entries.Entry.TheVariants.{Step, Root}
 use Rattle.rx_kills.specs.declared.schedule.Due.{Due}
 use Rattle.rx_kills.specs.declared.schedule.Due.TheVariants.{Join as Joins, Death as Dies}
 use Rattle.rx_finish.specs.declared.ledger.Caller.{Caller}
@@ -41,9 +41,7 @@ nothing false = refl
 
 at_nothing : (t : ℕ) (e : Entry) → cells_at t e [] ≡ []
 at_nothing t (Step u act batch) = nothing (u.0 == t)
-at_nothing t (Root lost masked thrown) = refl
-at_nothing t (Death d) = refl
-at_nothing t (Join d) = refl
+at_nothing t _ = refl
 
 module _ (m : Mentions) where
   abbrev events : Cells

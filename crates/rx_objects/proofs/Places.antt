@@ -3,7 +3,7 @@ use Rattle.std.proofs.Common.{◌≡◌, ◌≤◌, ◌<◌, inl, inr, ℕ, fals
 use Rattle.std.proofs.lemmas.List.{append-nil, map-append}
 use Rattle.std.proofs.lemmas.Bool.{cases_lt}
 use mathlib.Core.List.{IsPrefix}
-use Rattle.rx_rules.proofs.Common.{PlaceId, Value, Fault, has_bit, Block, Does, Local, Makes, Gets, Puts, Forgets, Opens, Calls, Spawns, Waits, Releases, Prints, Counts, Done, answer_of, Tells, Given}
+use Rattle.rx_rules.proofs.Common.{PlaceId, Value, Fault, has_bit, Block, Does, Makes, Gets, answer_of, Tells, Given}
 use Rattle.rx_rules.specs.declared.events.PlaceEvent.{PlaceEvent}
 use Rattle.rx_syntax.specs.Shape.{Stands}
 use Rattle.rx_history.specs.Setups.{given}
@@ -68,19 +68,9 @@ receiver (Gets name target index) = Some name
 receiver _ = None
 
 receives_it : (d : Does) → Receives d (receiver d)
-receives_it (Local left vars) = tt
 receives_it (Makes name words) = refl
 receives_it (Gets name target index) = refl
-receives_it (Puts target index value) = tt
-receives_it (Forgets target) = tt
-receives_it Opens = tt
-receives_it (Calls place) = tt
-receives_it (Spawns place) = tt
-receives_it (Waits faults) = tt
-receives_it Releases = tt
-receives_it (Prints value) = tt
-receives_it (Counts name) = tt
-receives_it (Done faults) = tt
+receives_it _ = tt
 
 -- Histories stay legal.
 

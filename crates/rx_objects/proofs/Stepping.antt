@@ -167,19 +167,8 @@ rooted_not (Death d ∷ es) x e h = rooted_not es x e h
 rooted_not (Join d ∷ es) x e h = rooted_not es x e h
 
 is_root_done-is : (r : Reply) → is_root_done r ≡ true → r ≡ RootDone
-is_root_done-is (Opened ticket scope) h = absurd (let f : ⊥ = cc h in f)
-is_root_done-is (Called ticket callee) h = absurd (let f : ⊥ = cc h in f)
-is_root_done-is (Spawned ticket child) h = absurd (let f : ⊥ = cc h in f)
-is_root_done-is (Landed ticket) h = absurd (let f : ⊥ = cc h in f)
-is_root_done-is (Waits ticket) h = absurd (let f : ⊥ = cc h in f)
-is_root_done-is (Released ticket outcome) h = absurd (let f : ⊥ = cc h in f)
-is_root_done-is Ended h = absurd (let f : ⊥ = cc h in f)
-is_root_done-is (Printed ticket) h = absurd (let f : ⊥ = cc h in f)
-is_root_done-is (Counted ticket places) h = absurd (let f : ⊥ = cc h in f)
 is_root_done-is RootDone h = refl
-is_root_done-is (NotYet place request) h = absurd (let f : ⊥ = cc h in f)
-is_root_done-is (Lost place at) h = absurd (let f : ⊥ = cc h in f)
-is_root_done-is (NoMemory request) h = absurd (let f : ⊥ = cc h in f)
+is_root_done-is _ h = absurd (let f : ⊥ = cc h in f)
 
 and_parts : (a b : Bool) → (a && b) ≡ true → (a ≡ true) × (b ≡ true)
 and_parts true true h = (refl, refl)

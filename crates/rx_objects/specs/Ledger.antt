@@ -14,9 +14,7 @@ use Rattle.rx_book.specs.declared.views.Stamped.{Stamped}
 use Rattle.rx_book.specs.History.{items_of}
 use Rattle.rx_ledger.specs.declared.asks.Request.{Request}
 use Rattle.rx_ledger.specs.declared.asks.Reply.{Reply}
-use Rattle.rx_ledger.specs.declared.asks.Reply.TheVariants.{Opened, Called, Spawned, Landed}
-use Rattle.rx_ledger.specs.declared.asks.Reply.TheVariants.{Waits, Released, Ended, Printed, Census as Counted}
-use Rattle.rx_ledger.specs.declared.asks.Reply.TheVariants.{RootDone, NotYet, Lost, NoMemory}
+use Rattle.rx_ledger.specs.declared.asks.Reply.TheVariants.{RootDone}
 use Rattle.rx_ledger.specs.Asking.{MayApply}
 use Rattle.rx_ledger.specs.Kept.{is_refusal, Applied}
 use Rattle.rx_parts.specs.Ledger.{RootIsLast, LegalLedger}
@@ -67,19 +65,8 @@ pub record LedgerFits (f : LedgerFixed) (log : List (Stamped EntryItem)) (caller
 
 -- the root's release is answered
 abbrev pub is_root_done : Reply → Bool
-is_root_done (Opened ticket scope) = false
-is_root_done (Called ticket callee) = false
-is_root_done (Spawned ticket child) = false
-is_root_done (Landed ticket) = false
-is_root_done (Waits ticket) = false
-is_root_done (Released ticket outcome) = false
-is_root_done Ended = false
-is_root_done (Printed ticket) = false
-is_root_done (Counted ticket places) = false
 is_root_done RootDone = true
-is_root_done (NotYet place request) = false
-is_root_done (Lost place at) = false
-is_root_done (NoMemory request) = false
+is_root_done _ = false
 
 -- there is something
 abbrev pub has_some : {X : Type 0} → List X → Bool

@@ -2,7 +2,7 @@
 use Rattle.std.proofs.Common.{◌≡◌, ℕ, zero, suc, ◌+◌, ◌<◌, ◌≤◌, Bool, true, false, cond, List, [], ◌∷◌, drop, refl, ap, sym, ◌∙◌, subst, arith, Option, Some, None, slice_get, ◌==◌, nat_lt}
 use Rattle.std.proofs.lemmas.Bool.Decides.{nat_tests}
 use Rattle.rx_base.proofs.Elements.{drop-next}
-use Rattle.rx_rules.proofs.Common.{Stmt, Block, SetTo, New, Get, Put, Forget, Census, Print, Throw, Async, AtAsync, At, Finish, If, Repeat, Try, before_inside, is_before_in, comes_before}
+use Rattle.rx_rules.proofs.Common.{Stmt, Block, Async, AtAsync, At, Finish, If, Repeat, Try, before_inside, is_before_in, comes_before}
 use Rattle.rx_syntax.specs.Shape.{Shape, BlockStands}
 use Rattle.rx_order.specs.declared.parts.Part.{Part}
 use Rattle.rx_order.specs.Inside.Parts.{is_kept_along, part_in, is_ordered, IsPart}
@@ -28,14 +28,6 @@ by_parts ordered (Some p) None = false
 by_parts ordered (Some p) (Some q) = by_numbers p.0 q.0 ordered (comes_before p.1 p.2 q.2) (is_kept_along p.1 p.2)
 
 pub before-is : (t : Stmt) (x y : List ℕ) → before_inside t x y ≡ by_parts (is_ordered t) (part_in t x) (part_in t y)
-before-is (SetTo n e) x y = refl
-before-is (New n k) x y = refl
-before-is (Get n u i) x y = refl
-before-is (Put u i e) x y = refl
-before-is (Forget u) x y = refl
-before-is (Census n) x y = refl
-before-is (Print e) x y = refl
-before-is (Throw e) x y = refl
 before-is (Async b) [] y = refl
 before-is (Async b) (i ∷ x) [] = refl
 before-is (Async b) (i ∷ x) (j ∷ y) = refl
@@ -85,6 +77,7 @@ before-is (Try a d b) (suc zero ∷ i ∷ x) (zero ∷ j ∷ y) = refl
 before-is (Try a d b) (suc zero ∷ i ∷ x) (suc zero ∷ []) = refl
 before-is (Try a d b) (suc zero ∷ i ∷ x) (suc zero ∷ j ∷ y) = refl
 before-is (Try a d b) (suc zero ∷ i ∷ x) (suc (suc m) ∷ y) = refl
+before-is _ x y = refl
 
 -- one path goes nowhere inside the statement
 pub before-out : (s : Shape) (path : List ℕ) (n : ℕ) (t : Stmt) (x y : List ℕ) → IsPart s path n None (part_in t x) → false ≡ before_inside t x y

@@ -83,9 +83,7 @@ acts_old {before = before} {i = i} (ends t faults a z is stands by here walks lo
 
 not_yet : (n k size : ℕ) (e : Entry) → ((u : TaskId) (act : Act) (batch : List (List ℕ)) → e ≡ Step u act batch → u.0 < size) → size ≤ k → move_of n k e ≡ None
 not_yet n k size (Step t act batch) h le = let low : t.0 < size = h t act batch refl in rw (ne_eqb t.0 k (λ w. omega arith)) refl
-not_yet n k size (Root lost masked thrown) h le = refl
-not_yet n k size (Death d) h le = refl
-not_yet n k size (Join p) h le = refl
+not_yet n k size _ h le = refl
 
 moved_by : (n k : ℕ) (i : LedgerItem) (before after : List Actor) (a b : Actor) → Change n k i before after a b → b.moves ≡ a.moves ++ cons_option (move_of n k i.entry) []
 moved_by n k i before after a b (same h) = sym (append-nil a.moves) ∙ ap (λ o. a.moves ++ cons_option o []) (sym h)

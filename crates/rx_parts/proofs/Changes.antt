@@ -4,9 +4,9 @@ use Rattle.std.proofs.lemmas.Bool.{eqb-true, eq-eqb, ne_eqb, true≢false}
 use Rattle.std.proofs.lemmas.List.{append-nil}
 use Rattle.rx_rules.proofs.Common.{PlaceId, TaskId, Fault, births_of, Done, does, move_of, birth_in, started_by}
 use Rattle.rx_rules.specs.declared.entries.Act.{Act}
-use Rattle.rx_rules.specs.declared.entries.Act.TheVariants.{Open, At as Calls, Spawn, Arrive, Wait, Release, End, Print, Census}
+use Rattle.rx_rules.specs.declared.entries.Act.TheVariants.{Open, At as Calls, Spawn, Arrive, End}
 use Rattle.rx_rules.specs.declared.entries.Entry.{Entry}
-use Rattle.rx_rules.specs.declared.entries.Entry.TheVariants.{Step, Root, Death, Join}
+use Rattle.rx_rules.specs.declared.entries.Entry.TheVariants.{Step}
 use Rattle.rx_rules.specs.Plays.{Fits}
 use Rattle.rx_runs.specs.Segments.{Stand}
 use Rattle.rx_parts.specs.Ledger.{LedgerItem, Actor, Away, Present, Walks, actor_born, actors_born, actor_arrived, actor_granted, actor_ended, IsHostEntry, ItemMakes, hosts, arrives, asks, ends}
@@ -27,9 +27,7 @@ pub data Change (n k : ℕ) (i : LedgerItem) (before after : List Actor) (a : Ac
 
 host_moves : (n k : ℕ) (e : Entry) → IsHostEntry e → move_of n k e ≡ None
 host_moves n k (Step t act batch) h = absurd h
-host_moves n k (Root lost masked thrown) h = refl
-host_moves n k (Death d) h = refl
-host_moves n k (Join p) h = refl
+host_moves n k _ h = refl
 
 other_moves : (n k : ℕ) (e : Entry) (t : TaskId) (act : Act) (batch : List (List ℕ)) → e ≡ Step t act batch → t.0 ≢ k → move_of n k e ≡ None
 other_moves n k e t act batch h o = ap (move_of n k) h ∙ rw (ne_eqb t.0 k o) refl
@@ -38,15 +36,9 @@ pub own_moves : (n k : ℕ) (e : Entry) (t : TaskId) (act : Act) (batch : List (
 own_moves n k e t act batch h s = ap (move_of n k) h ∙ rw (eq-eqb t.0 k s) refl
 
 starts_next : (n : ℕ) (i : LedgerItem) (before set : List Actor) (act : Act) (z : Stand) → length set ≡ length before → StartsNext n i before (set ++ actors_born n i act z) act z
-starts_next n i before set (Open s r x) z e c h = absurd (let f : ⊥ = cc in f)
 starts_next n i before set (Calls from to s r b x) z e c h = (from, to, ap (slice_get (set ++ actor_born n i from to z ∷ [])) (let g : length before ≡ length set + 0 = omega arith in g) ∙ got_right set (actor_born n i from to z ∷ []) 0)
 starts_next n i before set (Spawn b s from to x) z e c h = (from, to, ap (slice_get (set ++ actor_born n i from to z ∷ [])) (let g : length before ≡ length set + 0 = omega arith in g) ∙ got_right set (actor_born n i from to z ∷ []) 0)
-starts_next n i before set (Arrive p) z e c h = absurd (let f : ⊥ = cc in f)
-starts_next n i before set (Wait s thrown) z e c h = absurd (let f : ⊥ = cc in f)
-starts_next n i before set (Release s lost masked thrown) z e c h = absurd (let f : ⊥ = cc in f)
-starts_next n i before set (End thrown) z e c h = absurd (let f : ⊥ = cc in f)
-starts_next n i before set (Print value x) z e c h = absurd (let f : ⊥ = cc in f)
-starts_next n i before set (Census places x) z e c h = absurd (let f : ⊥ = cc in f)
+starts_next n i before set _ z e c h = absurd (let f : ⊥ = cc in f)
 
 -- what item n makes of task k, where it stands afterwards
 abbrev pub Changed : ℕ → ℕ → LedgerItem → List Actor → List Actor → Actor → Type 0
@@ -96,20 +88,11 @@ changed {n = n} {before = before} {i = i} (ends t faults b z e stands by here wa
 -- the number of tasks
 born_size : (n : ℕ) (i : LedgerItem) (t : TaskId) (act : Act) (batch : List (List ℕ)) (z : Stand) → length (actors_born n i act z) ≡ births_of (Step t act batch)
 born_size n i t (Open s r x) batch z = refl
-born_size n i t (Calls from to s r c x) batch z = refl
-born_size n i t (Spawn c s from to x) batch z = refl
-born_size n i t (Arrive p) batch z = refl
-born_size n i t (Wait s thrown) batch z = refl
-born_size n i t (Release s lost masked thrown) batch z = refl
-born_size n i t (End thrown) batch z = refl
-born_size n i t (Print value x) batch z = refl
-born_size n i t (Census places x) batch z = refl
+born_size n i t _ batch z = refl
 
 host_size : (e : Entry) → IsHostEntry e → births_of e ≡ 0
 host_size (Step t act batch) h = absurd h
-host_size (Root lost masked thrown) h = refl
-host_size (Death d) h = refl
-host_size (Join p) h = refl
+host_size _ h = refl
 
 pub sized : {n : ℕ} {before after : List Actor} {i : LedgerItem} → ItemMakes n before i after → length after ≡ length before + births_of i.entry
 sized {before = before} {i = i} (hosts h) = let z : births_of i.entry ≡ 0 = host_size i.entry h in omega arith
@@ -159,7 +142,6 @@ only_one (z ∷ xs) x y zero h got = absurd (omega arith)
 only_one (z ∷ xs) x y (suc k) h got = let r = only_one xs x y k (omega arith) got in (ap suc r.0, r.1)
 
 pub came_act : (n k : ℕ) (i : LedgerItem) (before set : List Actor) (t : TaskId) (act : Act) (batch : List (List ℕ)) (z : Stand) (b : Actor) → i.entry ≡ Step t act batch → t.0 < length before → length set ≡ length before → slice_get before k ≡ None → slice_get (set ++ actors_born n i act z) k ≡ Some b → (c : Came n k i before b) × (c.stand ≡ z)
-came_act n k i before set t (Open s r x) batch z b e old size gone got = absurd (none_came n k i before (set ++ []) b (ap length (append-nil set) ∙ size) gone got)
 came_act n k i before set t (Calls from to s r c x) batch z b e old size gone got =
     let out : length before ≤ k = outside before k gone in
     let one = only_one set (actor_born n i from to z) b k (omega arith) got in
@@ -168,12 +150,7 @@ came_act n k i before set t (Spawn c s from to x) batch z b e old size gone got 
     let out : length before ≤ k = outside before k gone in
     let one = only_one set (actor_born n i from to z) b k (omega arith) got in
     (record { task = t; act = Spawn c s from to x; batch = batch; entry = e; old = old; number = one.0 ∙ size; started = c; starts = refl; from = from; to = to; stand = z; is_it = one.1; birth_told = λ m. rw (eq-eqb c.0 c.0 refl) refl }, refl)
-came_act n k i before set t (Arrive p) batch z b e old size gone got = absurd (none_came n k i before (set ++ []) b (ap length (append-nil set) ∙ size) gone got)
-came_act n k i before set t (Wait s thrown) batch z b e old size gone got = absurd (none_came n k i before (set ++ []) b (ap length (append-nil set) ∙ size) gone got)
-came_act n k i before set t (Release s lost masked thrown) batch z b e old size gone got = absurd (none_came n k i before (set ++ []) b (ap length (append-nil set) ∙ size) gone got)
-came_act n k i before set t (End thrown) batch z b e old size gone got = absurd (none_came n k i before (set ++ []) b (ap length (append-nil set) ∙ size) gone got)
-came_act n k i before set t (Print value x) batch z b e old size gone got = absurd (none_came n k i before (set ++ []) b (ap length (append-nil set) ∙ size) gone got)
-came_act n k i before set t (Census places x) batch z b e old size gone got = absurd (none_came n k i before (set ++ []) b (ap length (append-nil set) ∙ size) gone got)
+came_act n k i before set t _ batch z b e old size gone got = absurd (none_came n k i before (set ++ []) b (ap length (append-nil set) ∙ size) gone got)
 
 pub came : {n : ℕ} {before after : List Actor} {i : LedgerItem} → ItemMakes n before i after → (k : ℕ) (b : Actor) → slice_get before k ≡ None → slice_get after k ≡ Some b → Came n k i before b
 came {n = n} {before = before} {i = i} (hosts h) k b gone got = absurd (not_none (slice_get before k) b got gone)

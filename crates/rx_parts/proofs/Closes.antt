@@ -5,7 +5,7 @@ use Rattle.std.proofs.lemmas.List.{map-append, take-map, take-append-le}
 use mathlib.Core.List.{IsPrefix}
 use Rattle.rx_rules.proofs.Common.{has_bit, PlaceId, death_number}
 use Rattle.rx_rules.specs.declared.entries.Entry.{Entry}
-use Rattle.rx_rules.specs.declared.entries.Entry.TheVariants.{Step, Root, Death, Join}
+use Rattle.rx_rules.specs.declared.entries.Entry.TheVariants.{Death}
 use Rattle.rx_book.specs.declared.views.Stamped.{Stamped}
 use Rattle.rx_book.specs.History.{is_place, items_of, has_death}
 use Rattle.rx_book.proofs.Masks.{has_bit-deaths_in}
@@ -41,13 +41,11 @@ none_dies : (n : ℕ) (p : PlaceId) (log : List (Stamped EntryItem)) → p.0 < 1
 none_dies n p [] low h = refl
 none_dies n p (x ∷ log) low h = by_entry (λ k. none_dies (suc n) p log low k) x.item.entry h where
   by_entry : (has_death shows p.0 (items_of log) ≡ false → death_number (suc n) p (entries_of (ledger_items log)) ≡ None) → (e : Entry) → (is_place p.0 (place_shown e) || has_death shows p.0 (items_of log)) ≡ false → death_number n p (e ∷ entries_of (ledger_items log)) ≡ None
-  by_entry rest (Step t act batch) k = rest k
-  by_entry rest (Root lost masked thrown) k = rest k
-  by_entry rest (Join q) k = rest k
   by_entry rest (Death d) k = by_test (d.0 == p.0) refl where
     by_test : (b : Bool) → (d.0 == p.0) ≡ b → cond b (Some n) (death_number (suc n) p (entries_of (ledger_items log))) ≡ None
     by_test true e = absurd (let f : true ≡ false = ap (λ b. b || has_death shows p.0 (items_of log)) (sym (is_shown d.0 p.0 low e)) ∙ k in cc)
     by_test false e = rest (or_right (is_place p.0 (place_shown (Death d))) (has_death shows p.0 (items_of log)) k)
+  by_entry rest _ k = rest k
 
 pub closes-fit : ClosesFit
 closes-fit v n w h p k d low met known prefix unknown stamped died =

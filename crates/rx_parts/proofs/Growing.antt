@@ -8,7 +8,7 @@ use Rattle.rx_base.proofs.Prefixes.{prefix-trans}
 use Rattle.rx_rules.specs.declared.entries.Act.{Act}
 use Rattle.rx_rules.specs.declared.entries.Act.TheVariants.{End}
 use Rattle.rx_rules.specs.declared.entries.Entry.{Entry}
-use Rattle.rx_rules.specs.declared.entries.Entry.TheVariants.{Step, Root, Death, Join}
+use Rattle.rx_rules.specs.declared.entries.Entry.TheVariants.{Step}
 use Rattle.rx_rules.specs.declared.events.PlaceEvent.{PlaceEvent}
 use Rattle.rx_rules.specs.Plays.{Fits}
 use Rattle.rx_parts.specs.Ledger.{LedgerItem, Actor, main_actor, ItemMakes, hosts, arrives, asks, ends, AllMake, RootIsLast, LegalLedger, entries_of}
@@ -80,9 +80,7 @@ by_later t c (i ∷ g) more h = by_later t c g more h.1
 
 none_own : (t : ℕ) (c by : List ℕ) (e : Entry) → ((u : TaskId) (act : Act) (batch : List (List ℕ)) → e ≡ Step u act batch → u.0 ≡ t → by ≡ c) → by ≢ c → is_of t e ≡ false
 none_own t c by (Step u act batch) h o = ne_eqb u.0 t (λ it. o (h u act batch refl it))
-none_own t c by (Root lost masked thrown) h o = refl
-none_own t c by (Death d) h o = refl
-none_own t c by (Join p) h o = refl
+none_own t c by _ h o = refl
 
 none_of : (t : ℕ) (c : List ℕ) (more : List LedgerItem) → EachBy t c more → NoneBy c more → NoneOf t more
 none_of t c [] h o = tt

@@ -22,18 +22,14 @@ of_other n k (Step u act batch) h = either (u.0 == k) refl where
   either : (b : Bool) → (u.0 == k) ≡ b → (u.0 == k) ≡ false
   either false e = e
   either true e = absurd (let f : Some (n, act, batch) ≡ None = ap (λ b. cond b (Some (n, act, batch)) None) (sym e) ∙ h in cc)
-of_other n k (Root lost masked thrown) h = refl
-of_other n k (Death d) h = refl
-of_other n k (Join p) h = refl
+of_other n k _ h = refl
 
 pub of_own : (k : ℕ) (e : Entry) (t : TaskId) (act : Act) (batch : List (List ℕ)) → e ≡ Step t act batch → t.0 ≡ k → is_of k e ≡ true
 of_own k e t act batch is it = ap (is_of k) is ∙ eq-eqb t.0 k it
 
 of_none : (k size : ℕ) (e : Entry) → ((u : TaskId) (act : Act) (batch : List (List ℕ)) → e ≡ Step u act batch → u.0 < size) → size ≤ k → is_of k e ≡ false
 of_none k size (Step t act batch) h le = let low : t.0 < size = h t act batch refl in ne_eqb t.0 k (λ w. omega arith)
-of_none k size (Root lost masked thrown) h le = refl
-of_none k size (Death d) h le = refl
-of_none k size (Join p) h le = refl
+of_none k size _ h le = refl
 
 abbrev names_if : Bool → LedgerItem → Cells
 names_if b i = cond b i.events []

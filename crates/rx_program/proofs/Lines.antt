@@ -6,7 +6,7 @@ use Rattle.std.specs.Char.{is_ascii_digit}
 use Rattle.std.proofs.lemmas.List.Folds.{list_all-append}
 use Rattle.std.proofs.lemmas.Bool.Decides.{nat_tests}
 use Rattle.std.proofs.lemmas.Bool.{and_parts, eqb-true, true≢false}
-use Rattle.rx_rules.proofs.Common.{PlaceId, ScopeId, PlaceSet, Fault, Dead, Thrown, Overflow, NoPlace, WrongPlace, Stale, Index, HeapFull, members}
+use Rattle.rx_rules.proofs.Common.{PlaceId, ScopeId, PlaceSet, Fault, Dead, Thrown, members}
 use Rattle.rx_rules.specs.declared.entries.Act.{Act}
 use Rattle.rx_rules.specs.declared.entries.Act.TheVariants.{Open, At, Spawn, Arrive, Wait, Release, End, Print, Census}
 use Rattle.rx_rules.specs.declared.entries.Entry.{Entry}
@@ -67,12 +67,7 @@ path (n ∷ ns) = both (natural_text n) (flat_map dotted ns) (natural n) (dots n
 fault : (f : Fault) → is_line (fault_field f) ≡ true
 fault (Dead p) = both (codes " dead:") (natural_text p.0) refl (natural p.0)
 fault (Thrown value) = both (codes " code:") (number_text value) refl (number value)
-fault Overflow = refl
-fault NoPlace = refl
-fault WrongPlace = refl
-fault Stale = refl
-fault Index = refl
-fault HeapFull = refl
+fault _ = refl
 
 fields : {A : Type 0} (field : A → List ℕ) (xs : List A) → ((x : A) → is_line (field x) ≡ true) → is_line (flat_map field xs) ≡ true
 fields field [] h = refl

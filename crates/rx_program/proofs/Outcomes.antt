@@ -202,33 +202,20 @@ status-plain (Death d ∷ es) = status-plain es
 status-plain (Join p ∷ es) = status-plain es
 
 act-plain : (p : Act → Bool) (act : Act) → ((s : ScopeId) (lost : PlaceSet) (masked : ℕ) (thrown : List Fault) → p (Release s (plain_set lost) masked thrown) ≡ p (Release s lost masked thrown)) → p (plain_act act) ≡ p act
-act-plain p (Open s r x) h = refl
-act-plain p (At from to s r c x) h = refl
-act-plain p (Spawn c s from to x) h = refl
-act-plain p (Arrive q) h = refl
-act-plain p (Wait s thrown) h = refl
 act-plain p (Release s lost masked thrown) h = h s lost masked thrown
-act-plain p (End thrown) h = refl
-act-plain p (Print value x) h = refl
-act-plain p (Census places x) h = refl
+act-plain p _ h = refl
 
 starts-plain : (e : Entry) → starts (plain e) ≡ starts e
 starts-plain (StepEntry t act batch) = act-plain starts_by act (λ s lost masked thrown. refl)
-starts-plain (Root lost masked thrown) = refl
-starts-plain (Death d) = refl
-starts-plain (Join p) = refl
+starts-plain _ = refl
 
 prints-plain : (e : Entry) → prints (plain e) ≡ prints e
 prints-plain (StepEntry t act batch) = act-plain prints_by act (λ s lost masked thrown. refl)
-prints-plain (Root lost masked thrown) = refl
-prints-plain (Death d) = refl
-prints-plain (Join p) = refl
+prints-plain _ = refl
 
 dies-plain : (e : Entry) → dies (plain e) ≡ dies e
 dies-plain (StepEntry t act batch) = refl
-dies-plain (Root lost masked thrown) = refl
-dies-plain (Death d) = refl
-dies-plain (Join p) = refl
+dies-plain _ = refl
 
 loses-plain : (e : Entry) → loses (plain e) ≡ loses e
 loses-plain (StepEntry t act batch) = act-plain loses_by act (λ s lost masked thrown. ap has_some (members_plain lost))

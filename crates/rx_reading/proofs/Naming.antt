@@ -34,14 +34,7 @@ no_kind w a b c d e f g h i Census = not_word w (codes "census") i
 -- an entry whose first word is that of a kind
 by_word : (places : ℕ) (kind : Kind) (ws : List (List ℕ)) → entry_at places (word_of kind ∷ ws) ≡ acted_at places kind ws
 by_word places Open ws = refl
-by_word places At ws = refl
-by_word places Spawn ws = refl
-by_word places Arrive ws = refl
-by_word places Wait ws = refl
-by_word places Release ws = refl
-by_word places End ws = refl
-by_word places Print ws = refl
-by_word places Census ws = refl
+by_word places _ ws = refl
 
 pub named_entry : (places : ℕ) (words rest : List (List ℕ)) (w : List ℕ) (kind : Kind) → Some (w, rest) ≡ first_word words → w ≡ word_of kind → acted_at places kind rest ≡ entry_at places words
 named_entry places [] rest w kind first is = absurd (none-some (w, rest) (sym first))
@@ -72,12 +65,5 @@ unnamed_entry places (v ∷ ws) rest w first apart =
 
 -- an act that is no release is a step of a task
 pub other_kinds : (places : ℕ) (kind : Kind) (ws : List (List ℕ)) → (kind ≡ Release → ⊥) → acted_at places kind ws ≡ step_at (act_at places kind) ws
-other_kinds places Open ws other = refl
-other_kinds places At ws other = refl
-other_kinds places Spawn ws other = refl
-other_kinds places Arrive ws other = refl
-other_kinds places Wait ws other = refl
 other_kinds places Release ws other = absurd (other refl)
-other_kinds places End ws other = refl
-other_kinds places Print ws other = refl
-other_kinds places Census ws other = refl
+other_kinds places _ ws other = refl

@@ -4,7 +4,7 @@ use Rattle.std.specs.Int.{w64}
 use Rattle.std.specs.List.{AllByRecursion}
 use Rattle.rx_base.specs.declared.ids.GlobalRef.{GlobalRef}
 use Rattle.rx_base.specs.declared.values.Fault.{Fault}
-use Rattle.rx_base.specs.declared.values.Fault.TheVariants.{Dead, Thrown, Overflow, NoPlace, WrongPlace, Stale, Index, HeapFull}
+use Rattle.rx_base.specs.declared.values.Fault.TheVariants.{Dead, Thrown}
 use Rattle.rx_rules.specs.declared.entries.Act.{Act}
 use Rattle.rx_rules.specs.declared.entries.Act.TheVariants.{Open, At, Spawn, Arrive, Wait, Release, End, Print, Census}
 use Rattle.rx_rules.specs.declared.entries.Entry.{Entry}
@@ -27,12 +27,7 @@ FitsPath path = (1 ≤ length path) × (length path ≤ 65) × AllByRecursion Is
 abbrev pub FitsFault : ℕ → Fault → Type 0
 FitsFault places (Dead p) = p.0 < places
 FitsFault places (Thrown value) = FitsSigned w64 value
-FitsFault places Overflow = Unit {0}
-FitsFault places NoPlace = Unit {0}
-FitsFault places WrongPlace = Unit {0}
-FitsFault places Stale = Unit {0}
-FitsFault places Index = Unit {0}
-FitsFault places HeapFull = Unit {0}
+FitsFault places _ = Unit {0}
 
 -- the numbers of an act; in a set of places bit p stands for place p
 abbrev pub FitsAct : ℕ → Act → Type 0

@@ -1,6 +1,6 @@
 -- What a task plays, read backwards: its end is last, its arrival first.
 use Rattle.std.proofs.Common.{◌≡◌, ℕ, zero, suc, ◌+◌, ◌<◌, ◌≤◌, Bool, true, false, List, [], ◌∷◌, ◌++◌, length, refl, arith, subst, sym, ap}
-use Rattle.rx_rules.proofs.Common.{PlaceId, Fault, Term, Vars, Does, Local, Makes, Gets, Puts, Forgets, Opens, Calls as Asks, Spawns, Waits, Releases, Prints, Counts, Done, does, Plays, asks, ends, stops, BeginsWithArrival, EachPlays, birth_of, travels, Block, Given, IsRun, births, UpTo, FromOn, acts_of, events_of_task}
+use Rattle.rx_rules.proofs.Common.{PlaceId, Fault, Term, Vars, Does, Local, does, Plays, asks, ends, stops, BeginsWithArrival, EachPlays, birth_of, travels, Block, Given, IsRun, births, UpTo, FromOn, acts_of, events_of_task}
 use Rattle.rx_rules.specs.declared.entries.Act.{Act}
 use Rattle.rx_rules.specs.declared.entries.Act.TheVariants.{Open, At as Calls, Spawn, Arrive, Wait, Release, End, Print, Census}
 use Rattle.rx_rules.specs.declared.entries.Entry.{Entry}
@@ -12,18 +12,7 @@ use Rattle.rx_rules.specs.Inversions.{EndsLast, ArrivesFirst, NeverArrived}
 -- no request is an end
 pub asks_no_end : (here : PlaceId) (t : Term) (d : Does) (thrown : List Fault) → Fits here t d (End thrown) → ⊥
 asks_no_end here t (Local left vars) thrown h = h
-asks_no_end here t (Makes name words) thrown h = h
-asks_no_end here t (Gets name target index) thrown h = h
-asks_no_end here t (Puts target index value) thrown h = h
-asks_no_end here t (Forgets target) thrown h = h
-asks_no_end here t Opens thrown h = h
-asks_no_end here t (Asks place) thrown h = h
-asks_no_end here t (Spawns place) thrown h = h
-asks_no_end here t (Waits faults) thrown h = h
-asks_no_end here t Releases thrown h = h
-asks_no_end here t (Prints value) thrown h = h
-asks_no_end here t (Counts name) thrown h = h
-asks_no_end here t (Done faults) thrown h = h
+asks_no_end here t _ thrown h = h
 
 -- what is at most a number is at most a greater one
 from_lower : (low high : ℕ) → low ≤ high → (cells : List (ℕ × Cell × List ℕ)) → FromOn high cells → FromOn low cells

@@ -3,7 +3,7 @@ use Rattle.std.proofs.Common.{◌≡◌, ◌≢◌, ℕ, zero, suc, ◌%◌, ◌
 use Rattle.std.specs.List.{find}
 use Rattle.std.proofs.lemmas.Bool.{eq-eqb, eqb-true, true≢false, cases_lt}
 use Rattle.std.proofs.lemmas.Option.{slice_get_within}
-use Rattle.rx_rules.proofs.Common.{PlaceId, TaskId, ScopeId, Fault, Block, Term, Empty, Raise, Run, Turns, Trying, Body, Held, no_vars, Answer, items, Does, Local, Makes, Gets, Puts, Forgets, Opens, Calls as Asks, Spawns, Waits, Releases, Prints, Counts, Done, does, granted, child, Tree, is_task, task_of, is_scope, the_root, waiting, resumed, without, born, hit, strike, made_act, made, after_end, AllowedAct, Tells, raised_by, brought, started_by, State, Reached, Given, in_all, NoRoot, Player, Game, RunsWithoutEntry, stays, local, stores, Turn, acted, child_of, enabled, tree_in, start_game}
+use Rattle.rx_rules.proofs.Common.{PlaceId, TaskId, ScopeId, Fault, Block, Term, Empty, Turns, Trying, Body, no_vars, Answer, items, Does, Local, Makes, Gets, Puts, Forgets, Opens, Calls as Asks, Spawns, Waits, Releases, Prints, Counts, Done, does, granted, child, Tree, is_task, task_of, is_scope, the_root, waiting, resumed, without, born, hit, strike, made_act, made, after_end, AllowedAct, Tells, raised_by, brought, started_by, State, Reached, Given, in_all, NoRoot, Player, Game, RunsWithoutEntry, stays, local, stores, Turn, acted, child_of, enabled, tree_in, start_game}
 use Rattle.rx_rules.specs.declared.tasks.Blow.{Blow}
 use Rattle.rx_rules.specs.declared.tasks.Task.{Task}
 use Rattle.rx_rules.specs.declared.tasks.Scope.{Scope}
@@ -76,13 +76,9 @@ rest_push (b ∷ []) h = refl
 rest_push (b ∷ c ∷ fs) h = h
 
 rest_calm : (t : Term) → first (rest (frames t)) ≡ false
-rest_calm Empty = refl
-rest_calm (Raise faults) = refl
-rest_calm (Run stmt x more) = refl
-rest_calm (Turns body x k times more) = refl
 rest_calm (Trying inside dead_only handler x more) = rest_calm inside
 rest_calm (Body inside more) = rest_push (frames inside) (rest_calm inside)
-rest_calm (Held more) = refl
+rest_calm _ = refl
 
 own_fits : (T : Tree) (t : TaskId) (x y : Task) (here : PlaceId) (places : ℕ) (q : Term) (d : Does) (act : Act) → Reached T → task_of T t ≡ Some x → TermFits (kinds_of T t) x.waits q → Framed places q d → Fits here q d act → AllowedAct T t act → task_of (made_act T t act) t ≡ Some y → TermFits (kinds_of (made_act T t act) t) y.waits (granted (brought act) q)
 own_fits T t x y here places q (Local left vars) act r found fit f fits may after = absurd fits
@@ -184,34 +180,12 @@ own_fits T t x y here places q (Done faults) act r found fit f fits may after = 
 -- The task that an act starts.
 
 calls_flat : (here : PlaceId) (places : ℕ) (q : Term) (d : Does) (a0 a1 : ScopeId) (a2 : TaskId) (a3 a4 : PlaceId) (a5 : List ℕ) → Framed places q d → Fits here q d (Calls a3 a4 a0 a1 a2 a5) → Flat (child q)
-calls_flat here places q (Local left vars) a0 a1 a2 a3 a4 a5 f h = absurd h
-calls_flat here places q (Makes name words) a0 a1 a2 a3 a4 a5 f h = absurd h
-calls_flat here places q (Gets name target index) a0 a1 a2 a3 a4 a5 f h = absurd h
-calls_flat here places q (Puts target index value) a0 a1 a2 a3 a4 a5 f h = absurd h
-calls_flat here places q (Forgets target) a0 a1 a2 a3 a4 a5 f h = absurd h
-calls_flat here places q Opens a0 a1 a2 a3 a4 a5 f h = absurd h
 calls_flat here places q (Asks pl) a0 a1 a2 a3 a4 a5 f h = f.3
-calls_flat here places q (Spawns pl) a0 a1 a2 a3 a4 a5 f h = absurd h
-calls_flat here places q (Waits faults) a0 a1 a2 a3 a4 a5 f h = absurd h
-calls_flat here places q Releases a0 a1 a2 a3 a4 a5 f h = absurd h
-calls_flat here places q (Prints z) a0 a1 a2 a3 a4 a5 f h = absurd h
-calls_flat here places q (Counts name) a0 a1 a2 a3 a4 a5 f h = absurd h
-calls_flat here places q (Done faults) a0 a1 a2 a3 a4 a5 f h = absurd h
+calls_flat here places q _ a0 a1 a2 a3 a4 a5 f h = absurd h
 
 spawns_flat : (here : PlaceId) (places : ℕ) (q : Term) (d : Does) (a0 : TaskId) (a1 : ScopeId) (a2 a3 : PlaceId) (a4 : List ℕ) → Framed places q d → Fits here q d (Spawn a0 a1 a2 a3 a4) → Flat (child q)
-spawns_flat here places q (Local left vars) a0 a1 a2 a3 a4 f h = absurd h
-spawns_flat here places q (Makes name words) a0 a1 a2 a3 a4 f h = absurd h
-spawns_flat here places q (Gets name target index) a0 a1 a2 a3 a4 f h = absurd h
-spawns_flat here places q (Puts target index value) a0 a1 a2 a3 a4 f h = absurd h
-spawns_flat here places q (Forgets target) a0 a1 a2 a3 a4 f h = absurd h
-spawns_flat here places q Opens a0 a1 a2 a3 a4 f h = absurd h
-spawns_flat here places q (Asks pl) a0 a1 a2 a3 a4 f h = absurd h
 spawns_flat here places q (Spawns pl) a0 a1 a2 a3 a4 f h = f.3
-spawns_flat here places q (Waits faults) a0 a1 a2 a3 a4 f h = absurd h
-spawns_flat here places q Releases a0 a1 a2 a3 a4 f h = absurd h
-spawns_flat here places q (Prints z) a0 a1 a2 a3 a4 f h = absurd h
-spawns_flat here places q (Counts name) a0 a1 a2 a3 a4 f h = absurd h
-spawns_flat here places q (Done faults) a0 a1 a2 a3 a4 f h = absurd h
+spawns_flat here places q _ a0 a1 a2 a3 a4 f h = absurd h
 
 head_found : (x : Task) (xs : List Task) (u : TaskId) → x.number.0 ≡ u.0 → find (is_task u) (x ∷ xs) ≡ Some x
 head_found x xs u e = ap (λ b. cond b (Some x) (find (is_task u) xs)) (eq-eqb x.number.0 u.0 e)
@@ -375,19 +349,11 @@ module _ (T : Tree) (r : Reached T) (players : List Player) (size : length playe
 -- The walk of a turn.
 
 store_framed : (places : ℕ) (t : Term) (d : Does) (here : PlaceId) (c : Cell) (a : Answer) → Framed places t d → Tells d here c a → Stored t
-store_framed places t (Local left vars) here c a f h = absurd h
 store_framed places t (Makes name words) here c a f h = f
 store_framed places t (Gets name target index) here c a f h = f
 store_framed places t (Puts target index value) here c a f h = f
 store_framed places t (Forgets target) here c a f h = f
-store_framed places t Opens here c a f h = absurd h
-store_framed places t (Asks pl) here c a f h = absurd h
-store_framed places t (Spawns pl) here c a f h = absurd h
-store_framed places t (Waits faults) here c a f h = absurd h
-store_framed places t Releases here c a f h = absurd h
-store_framed places t (Prints z) here c a f h = absurd h
-store_framed places t (Counts name) here c a f h = absurd h
-store_framed places t (Done faults) here c a f h = absurd h
+store_framed places t _ here c a f h = absurd h
 
 pub goes_frames : {heap n : ℕ} {t : TaskId} {here : PlaceId} {p q : Player} {S Z : State} {j k : List PlaceEvent} → RunsWithoutEntry heap n t here p S j q Z k → FlatAfterItem p.term → FlatAfterItem q.term × (frames q.term ≡ frames p.term)
 goes_frames stays shape = (shape, refl)

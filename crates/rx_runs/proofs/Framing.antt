@@ -1,6 +1,6 @@
 -- What a step of a term makes of the scopes in which it stands.
 use Rattle.std.proofs.Common.{◌≡◌, ℕ, suc, ◌+◌, ◌<◌, ◌≤◌, Bool, true, false, List, [], ◌∷◌, ◌++◌, Some, refl, ap, subst, arith}
-use Rattle.rx_rules.proofs.Common.{Fault, Block, Nothing, Then, Stmt, Term, Empty, Raise, Run, Turns, Trying, Body, Held, Does, Local, Makes, Gets, Puts, Forgets, Opens, Calls, Spawns, Waits, Releases, Prints, Counts, Done, granted, child, Vars, does, items, items_from, at, or_raise, begins, Answer, Gives, Fine, Fails, answered, New, Get, Put, Forget}
+use Rattle.rx_rules.proofs.Common.{Fault, Block, Nothing, Then, Stmt, Term, Empty, Raise, Run, Turns, Trying, Body, Held, Does, Local, Opens, Calls, Spawns, Waits, Releases, Prints, Counts, Done, granted, child, Vars, does, items, items_from, at, or_raise, begins, Answer, Gives, Fine, Fails, answered, New, Get, Put, Forget}
 use Rattle.rx_rules.proofs.StepRules.{StepRule, IsAsking, GoesOn, empty, raised, raises, sets, makes, gets, puts, forgets, counts, prints, spawns, spawns_at, calls, opens, takes_first, takes_other, repeats, tries, turns_over, turns_on, try_over, caught, uncaught, in_try, asks_in_try, waits, waits_raised, in_body, asks_in_body, releases, rule_of, granted_inside}
 use Rattle.rx_runs.specs.Framing.{frames, first, Flat, FlatAfterItem}
 
@@ -22,10 +22,6 @@ Stored t = Calm t × Begun t × ((a : Answer) → Keeps t (answered a t))
 -- what a step of a term at one of so many places makes
 abbrev pub Framed : ℕ → Term → Does → Type 0
 Framed places t (Local after vars) = Calm t × Keeps t after
-Framed places t (Makes name words) = Stored t
-Framed places t (Gets name target index) = Stored t
-Framed places t (Puts target index value) = Stored t
-Framed places t (Forgets target) = Stored t
 Framed places t Opens = Calm t × Begun t × FlatAfterItem (granted [] t) × (frames (granted [] t) ≡ false ∷ frames t)
 Framed places t (Calls p) = Calm t × Begun t × (p < places) × Flat (child t) × FlatAfterItem (granted [] t) × (frames (granted [] t) ≡ true ∷ frames t)
 Framed places t (Spawns p) = Calm t × Begun t × (p < places) × Flat (child t) × Keeps t (granted [] t)
@@ -34,6 +30,7 @@ Framed places t Releases = (fs : List Bool) × (frames t ≡ true ∷ fs) × ((f
 Framed places t (Prints value) = Calm t × Begun t × Keeps t (granted [] t)
 Framed places t (Counts name) = Calm t × Begun t × Keeps t (granted [] t)
 Framed places t (Done faults) = frames t ≡ []
+Framed places t _ = Stored t
 
 -- Flat terms.
 
@@ -46,18 +43,13 @@ flat_shape Empty h = tt
 flat_shape (Raise faults) h = tt
 flat_shape (Run stmt x rest) h = h
 flat_shape (Turns body x k times rest) h = h
-flat_shape (Trying inside dead_only handler x rest) h = absurd h
-flat_shape (Body inside rest) h = absurd h
-flat_shape (Held rest) h = absurd h
+flat_shape _ h = absurd h
 
 pub flat_frames : (t : Term) → Flat t → frames t ≡ []
-flat_frames Empty h = refl
-flat_frames (Raise faults) h = refl
-flat_frames (Run stmt x rest) h = refl
-flat_frames (Turns body x k times rest) h = refl
 flat_frames (Trying inside dead_only handler x rest) h = absurd h
 flat_frames (Body inside rest) h = absurd h
 flat_frames (Held rest) h = absurd h
+flat_frames _ h = refl
 
 flat_so : (t : Term) → Flat t → FlatAfterItem t × (frames t ≡ [])
 flat_so t h = (flat_shape t h, flat_frames t h)

@@ -3,7 +3,7 @@ use Rattle.std.proofs.Common.{◌≡◌, ℕ, zero, suc, ◌+◌, ◌%◌, ◌^�
 use Rattle.std.specs.List.{find, list_any}
 use Rattle.std.proofs.Math.Nat.{mod-lt}
 use Rattle.std.proofs.lemmas.Bool.{cases_lt}
-use Rattle.rx_rules.proofs.Common.{PlaceId, ScopeId, PlaceSet, Block, Does, Local, Makes, Gets, Puts, Forgets, Opens, Calls as Asks, Spawns, Waits, Releases, Prints, Counts, Done, does, Tree, opened_by, inner, governs, quiet, is_under, the_root, ActAsks, AllowedAct, IsLive, MayFree, was_lost_at, masked_under, thrown_of, journal_at, State, Given, in_all, Event, NoRoot, EndsWithRoot, NoneDue, IsDue, Player, Game, Turn, MadeByTurns, turns, IsPicked, none, more, used_after, enabled, tree_in, start_game}
+use Rattle.rx_rules.proofs.Common.{PlaceId, ScopeId, PlaceSet, Block, Does, Opens, Calls as Asks, Spawns, Waits, Releases, Prints, Counts, Done, does, Tree, opened_by, inner, governs, quiet, is_under, the_root, ActAsks, AllowedAct, IsLive, MayFree, was_lost_at, masked_under, thrown_of, journal_at, State, Given, in_all, Event, NoRoot, EndsWithRoot, NoneDue, IsDue, Player, Game, Turn, MadeByTurns, turns, IsPicked, none, more, used_after, enabled, tree_in, start_game}
 use Rattle.rx_rules.specs.declared.tasks.Where.{Where}
 use Rattle.rx_rules.specs.declared.tasks.Where.TheVariants.{At, Travel}
 use Rattle.rx_rules.specs.declared.tasks.Task.{Task}
@@ -117,11 +117,6 @@ module _ (U : Given) (k : ℕ) (G : Game) (free : NoneDue (length G.entries) G.p
   match_of fs e = subst (λ (v : List Bool). Match v (kinds_of (tree_in U G) x.number)) (sym w.same ∙ e) fit.frames_are
 
   turn_by : (d : Does) → does q.vars here.0 q.term ≡ d → Framed (tree_in U G).places q.term d → IsLast d → HasTurn U k G
-  turn_by (Local after vars) e f l = absurd l
-  turn_by (Makes name words) e f l = absurd l
-  turn_by (Gets name target index) e f l = absurd l
-  turn_by (Puts target index value) e f l = absurd l
-  turn_by (Forgets target) e f l = absurd l
   turn_by Opens e f l =
       let T : Tree = tree_in U G in
       by_act (Open (record { 0 = T.next_scope }) (inner T x) f.1.0) (subst (λ (d : Does). Fits here q.term d (Open (record { 0 = T.next_scope }) (inner T x) f.1.0)) (sym e) f.1.1)
@@ -165,6 +160,7 @@ module _ (U : Given) (k : ℕ) (G : Game) (free : NoneDue (length G.entries) G.p
         (allowed (End faults) ((here, live (ap first f)), no_own (opened_by x.number) (tree_in U G).scopes (match_of [] f))),
     λ h. fits_push G.entries (Step x.number (End faults) q.batch) h (tt, tt),
   )
+  turn_by _ e f l = absurd l
 
 -- A next turn.
 

@@ -1,5 +1,5 @@
 -- Each turn keeps what holds of games.
-use Rattle.rx_rules.proofs.Common.{Vars, no_vars, PlaceId, PlaceSet, TaskId, Fault, Block, Term, Empty, items, Does, Local, Makes, Gets, Puts, Forgets, Opens, Calls as Asks, Spawns, Waits, Releases, Prints, Counts, Done, does, child, birth_in, Tree, quiet, inner, Allowed, AllowedAct, made_act, births, births_of, opening, Moves, Birth, birth_of, moves_from, journal_at, cell_of, started_by, StartsSo, State, Given, in_all, Event, plan_of, AtHome, NoneDue, IsDue, rest_of, death_number, Player, Game, Turn, enabled, is_enabled, tree_in, with_entry, closed_by, child_of, NoRoot}
+use Rattle.rx_rules.proofs.Common.{Vars, no_vars, PlaceId, PlaceSet, TaskId, Fault, Block, Term, Empty, items, Does, Local, Done, does, child, birth_in, Tree, quiet, inner, Allowed, AllowedAct, made_act, births, births_of, opening, Moves, Birth, birth_of, moves_from, journal_at, cell_of, started_by, StartsSo, State, Given, in_all, Event, plan_of, AtHome, NoneDue, IsDue, rest_of, death_number, Player, Game, Turn, enabled, is_enabled, tree_in, with_entry, closed_by, child_of, NoRoot}
 use Rattle.std.proofs.Common.{◌≡◌, ◌≢◌, ℕ, zero, suc, ◌+◌, ◌-◌, ◌%◌, ◌<◌, ◌≤◌, Bool, true, false, not, ◌&&◌, ◌||◌, List, [], ◌∷◌, ◌++◌, length, filter, reverse, get_or, slice_get, slice_set, Option, Some, None, is_none, refl, ap, ◌∙◌, sym, subst, arith, length-set}
 use Rattle.std.specs.List.{filter_map}
 use Rattle.std.proofs.lemmas.Bool.{eq-eqb, and_parts, or_right}
@@ -71,18 +71,7 @@ root_not (Join p ∷ es) lost masked thrown h = root_not es lost masked thrown h
 -- a term asks for no arrival and no end
 pub no_arrival : (here : PlaceId) (t : Term) (d : Does) (p : PlaceId) → Fits here t d (Arrive p) → ⊥
 no_arrival here t (Local a b) p h = h
-no_arrival here t (Makes a b) p h = h
-no_arrival here t (Gets a b c) p h = h
-no_arrival here t (Puts a b c) p h = h
-no_arrival here t (Forgets a) p h = h
-no_arrival here t Opens p h = h
-no_arrival here t (Asks a) p h = h
-no_arrival here t (Spawns a) p h = h
-no_arrival here t (Waits a) p h = h
-no_arrival here t Releases p h = h
-no_arrival here t (Prints a) p h = h
-no_arrival here t (Counts a) p h = h
-no_arrival here t (Done a) p h = h
+no_arrival here t _ p h = h
 
 module _ (code : Block) (U : Given) (G : Game) (ok : GameOk code U G) where
   next_is : (tree_in U G).next_task ≡ length ok.starts

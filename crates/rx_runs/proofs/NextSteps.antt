@@ -1,6 +1,6 @@
 -- A term has one next step: what it asks the store, what it asks the ledger, a local step and an end exclude each other.
 use Rattle.std.proofs.Common.{◌≡◌, List, sym, subst, ◌∙◌}
-use Rattle.rx_rules.proofs.Common.{PlaceId, Fault, Term, Vars, Answer, Does, Local, Makes as Creates, Gets, Puts, Forgets, Opens, Calls as Asks, Spawns, Waits, Releases, Prints, Counts, Done, Tells}
+use Rattle.rx_rules.proofs.Common.{PlaceId, Fault, Term, Vars, Answer, Does, Local, Makes as Creates, Gets, Puts, Forgets, Done, Tells}
 use Rattle.rx_rules.specs.declared.entries.Act.{Act}
 use Rattle.rx_rules.specs.declared.events.Cell.{Cell}
 use Rattle.rx_rules.specs.declared.events.Cell.TheVariants.{Make, MakeFull, Get, Put, Forget, GetRefused, PutRefused, ForgetStale}
@@ -40,15 +40,7 @@ told_once (Forgets target) here (Forget r) a b h k = h.1 ∙ sym k.1
 told_once (Forgets target) here (GetRefused r i s) a b h k = absurd h
 told_once (Forgets target) here (PutRefused r i v s) a b h k = absurd h
 told_once (Forgets target) here (ForgetStale r) a b h k = h.1 ∙ sym k.1
-told_once (Local left vars) here c a b h k = absurd h
-told_once Opens here c a b h k = absurd h
-told_once (Asks place) here c a b h k = absurd h
-told_once (Spawns place) here c a b h k = absurd h
-told_once (Waits faults) here c a b h k = absurd h
-told_once Releases here c a b h k = absurd h
-told_once (Prints value) here c a b h k = absurd h
-told_once (Counts name) here c a b h k = absurd h
-told_once (Done faults) here c a b h k = absurd h
+told_once _ here c a b h k = absurd h
 
 -- what asks the store is no request
 pub not_told_and_fits : (d : Does) (here : PlaceId) (t : Term) (c : Cell) (a : Answer) (act : Act) → Tells d here c a → Fits here t d act → ⊥
@@ -57,14 +49,7 @@ not_told_and_fits (Gets name target index) here t c a act h k = k
 not_told_and_fits (Puts target index value) here t c a act h k = k
 not_told_and_fits (Forgets target) here t c a act h k = k
 not_told_and_fits (Local left vars) here t c a act h k = k
-not_told_and_fits Opens here t c a act h k = h
-not_told_and_fits (Asks place) here t c a act h k = h
-not_told_and_fits (Spawns place) here t c a act h k = h
-not_told_and_fits (Waits faults) here t c a act h k = h
-not_told_and_fits Releases here t c a act h k = h
-not_told_and_fits (Prints value) here t c a act h k = h
-not_told_and_fits (Counts name) here t c a act h k = h
-not_told_and_fits (Done faults) here t c a act h k = h
+not_told_and_fits _ here t c a act h k = h
 
 pub not_local_told : (d : Does) (here : PlaceId) (c : Cell) (a : Answer) (left : Vars) (after : Term) → d ≡ Local after left → Tells d here c a → ⊥
 not_local_told d here c a left after e h = subst (λ (z : Does). Tells z here c a) e h

@@ -55,15 +55,8 @@ members_plain s = same_filter (has_bit (s.0 % 2 ^ 16)) (has_bit s.0) all_places 
 -- Entries.
 
 plain_fits_act : (act : Act) → ActFits (plain_act act)
-plain_fits_act (Open s r x) = tt
-plain_fits_act (Calls from to s r c x) = tt
-plain_fits_act (Spawn c s from to x) = tt
-plain_fits_act (Arrive p) = tt
-plain_fits_act (Wait s thrown) = tt
 plain_fits_act (Release s lost masked thrown) = omega arith
-plain_fits_act (End thrown) = tt
-plain_fits_act (Print value x) = tt
-plain_fits_act (Census places x) = tt
+plain_fits_act _ = tt
 
 pub plain_fits : (es : List Entry) → SetsFit (map plain es)
 plain_fits [] = tt
@@ -109,61 +102,24 @@ end_stays (Join p ∷ es) h = end_stays es h
 -- Acts.
 
 brought_plain : (act : Act) → brought (plain_act act) ≡ brought act
-brought_plain (Open s r x) = refl
-brought_plain (Calls from to s r c x) = refl
-brought_plain (Spawn c s from to x) = refl
-brought_plain (Arrive p) = refl
-brought_plain (Wait s thrown) = refl
 brought_plain (Release s lost masked thrown) = ap (λ ps. map (λ p. Dead (record { 0 = p })) ps ++ thrown) (members_plain lost)
-brought_plain (End thrown) = refl
-brought_plain (Print value x) = refl
-brought_plain (Census places x) = refl
+brought_plain _ = refl
 
 child_plain : (q : Player) (act : Act) → child_of q (plain_act act) ≡ child_of q act
 child_plain q (Open s r x) = refl
-child_plain q (Calls from to s r c x) = refl
-child_plain q (Spawn c s from to x) = refl
-child_plain q (Arrive p) = refl
-child_plain q (Wait s thrown) = refl
-child_plain q (Release s lost masked thrown) = refl
-child_plain q (End thrown) = refl
-child_plain q (Print value x) = refl
-child_plain q (Census places x) = refl
+child_plain q _ = refl
 
 release_fits : (here : PlaceId) (t : Term) (d : Does) (s : ScopeId) (lost other : PlaceSet) (masked : ℕ) (thrown : List Fault)
     → Fits here t d (Release s lost masked thrown) → Fits here t d (Release s other masked thrown)
 release_fits here t (Local left vars) s lost other masked thrown h = h
-release_fits here t (Makes name words) s lost other masked thrown h = h
-release_fits here t (Gets name target index) s lost other masked thrown h = h
-release_fits here t (Puts target index value) s lost other masked thrown h = h
-release_fits here t (Forgets target) s lost other masked thrown h = h
-release_fits here t Opens s lost other masked thrown h = h
-release_fits here t (Asks place) s lost other masked thrown h = h
-release_fits here t (Spawns place) s lost other masked thrown h = h
-release_fits here t (Waits faults) s lost other masked thrown h = h
-release_fits here t Releases s lost other masked thrown h = h
-release_fits here t (Prints value) s lost other masked thrown h = h
-release_fits here t (Counts name) s lost other masked thrown h = h
-release_fits here t (Done faults) s lost other masked thrown h = h
+release_fits here t _ s lost other masked thrown h = h
 
 fits_plain : (here : PlaceId) (t : Term) (d : Does) (act : Act) → Fits here t d act → Fits here t d (plain_act act)
-fits_plain here t d (Open s r x) h = h
-fits_plain here t d (Calls from to s r c x) h = h
-fits_plain here t d (Spawn c s from to x) h = h
-fits_plain here t d (Arrive p) h = h
-fits_plain here t d (Wait s thrown) h = h
 fits_plain here t d (Release s lost masked thrown) h = release_fits here t d s lost (plain_set lost) masked thrown h
-fits_plain here t d (End thrown) h = h
-fits_plain here t d (Print value x) h = h
-fits_plain here t d (Census places x) h = h
+fits_plain here t d _ h = h
 
 -- what the act tells is the same
 vars_plain : (d : Does) (act : Act) (vars : Vars) → vars_told d (plain_act act) vars ≡ vars_told d act vars
-vars_plain d (Open s r x) vars = refl
-vars_plain d (Calls from to s r c x) vars = refl
-vars_plain d (Spawn c s from to x) vars = refl
-vars_plain d (Arrive p) vars = refl
-vars_plain d (Wait s thrown) vars = refl
 vars_plain d (Release s lost masked thrown) vars = release_tells d s (plain_set lost) lost masked thrown vars where
   release_tells : (d : Does) (s : ScopeId) (lost other : PlaceSet) (masked : ℕ) (thrown : List Fault) (vars : Vars)
       → vars_told d (Release s lost masked thrown) vars ≡ vars_told d (Release s other masked thrown) vars
@@ -180,9 +136,7 @@ vars_plain d (Release s lost masked thrown) vars = release_tells d s (plain_set 
   release_tells (Prints value) s lost other masked thrown vars = refl
   release_tells (Counts name) s lost other masked thrown vars = refl
   release_tells (Done faults) s lost other masked thrown vars = refl
-vars_plain d (End thrown) vars = refl
-vars_plain d (Print value x) vars = refl
-vars_plain d (Census places x) vars = refl
+vars_plain d _ vars = refl
 
 free_as_plain : (T : Tree) (s : ScopeId) (lost : PlaceSet) (masked : ℕ) (thrown : List Fault) → MayFree T s lost masked thrown → MayFree T s (plain_set lost) masked thrown
 free_as_plain T s lost masked thrown h = record { is_quiet = h.is_quiet; places = members_plain lost ∙ h.places; count = h.count; faults = h.faults }

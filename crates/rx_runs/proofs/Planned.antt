@@ -74,9 +74,7 @@ rest_may n all here es (x ∷ xs) e due h = subst (λ (v : Entry). MayCome all (
 -- an entry that is no death
 be_on : (here : ℕ) (es fs : List Entry) (xs : List Event) (e : Entry) → ((p : PlaceId) → death_number 0 p fs ≡ death_number 0 p es) → MayBe here es xs e → MayBe here fs xs e
 be_on here es fs xs (Death d) f h = (h.0, h.1, f d ∙ h.2, h.3)
-be_on here es fs xs (Join p) f h = h
-be_on here es fs xs (Step t act batch) f h = h
-be_on here es fs xs (Root lost masked thrown) f h = h
+be_on here es fs xs _ f h = h
 
 pub may_on : (all here : ℕ) (es fs : List Entry) (xs : List Event) → ((p : PlaceId) → death_number 0 p fs ≡ death_number 0 p es) → MayCome all here es xs → MayCome all here fs xs
 may_on all here es fs [] f h = h
@@ -86,9 +84,7 @@ may_on all here es fs (x ∷ xs) f h = (be_on here es fs xs x.entry f h.0, may_o
 be_dies : (here : ℕ) (es : List Entry) (d : PlaceId) (xs : List Event) (e : Entry) → e ≢ Death d → MayBe here es xs e → MayBe here (es ++ Death d ∷ []) xs e
 be_dies here es d xs (Death c) a h =
     (h.0, h.1, death_same c es (Death d) (other_death c d es (λ e. a (ap (λ (p : PlaceId). Death p) (place-is c d (sym e))))) ∙ h.2, h.3)
-be_dies here es d xs (Join p) a h = h
-be_dies here es d xs (Step t act batch) a h = h
-be_dies here es d xs (Root lost masked thrown) a h = h
+be_dies here es d xs _ a h = h
 
 pub may_dies : (all here : ℕ) (es : List Entry) (d : PlaceId) (xs : List Event) → SparesIn d xs → MayCome all here es xs → MayCome all here (es ++ Death d ∷ []) xs
 may_dies all here es d [] a h = h
@@ -97,9 +93,7 @@ may_dies all here es d (x ∷ xs) a h = (be_dies here es d xs x.entry a.0 h.0, m
 -- the places that are there are no more than all
 step_within : (here : ℕ) (e : Entry) → here ≤ places_after e here
 step_within here (Death d) = omega arith
-step_within here (Join p) = omega arith
-step_within here (Step t act batch) = omega arith
-step_within here (Root lost masked thrown) = omega arith
+step_within here _ = omega arith
 
 pub come_within : (all here : ℕ) (es : List Entry) (xs : List Event) → MayCome all here es xs → here ≤ all
 come_within all here es [] h = omega (arith, h)

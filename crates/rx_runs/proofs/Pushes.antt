@@ -8,9 +8,7 @@ use Rattle.rx_runs.specs.Segments.{plan_left, InTime}
 
 alone : (n : ℕ) (xs : List Event) (e : Entry) → InTime n xs e → PlanKept n xs (e ∷ [])
 alone n xs (Step t act batch) h = (h, tt)
-alone n xs (Root lost masked thrown) h = (h, tt)
-alone n xs (Death d) h = (h, tt)
-alone n xs (Join p) h = (h, tt)
+alone n xs _ h = (h, tt)
 
 -- what is planned
 pub plan-push : (n : ℕ) (xs : List Event) (es : List Entry) (e : Entry) → PlanKept n xs es → InTime (n + length es) (plan_left xs es) e → PlanKept n xs (es ++ e ∷ [])

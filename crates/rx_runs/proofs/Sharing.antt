@@ -29,9 +29,7 @@ module _ (f : Act → ℕ) where
   -- of an entry
   abbrev pub of_entry : Entry → ℕ
   of_entry (Step t act batch) = f act
-  of_entry (Root lost masked thrown) = 0
-  of_entry (Death d) = 0
-  of_entry (Join p) = 0
+  of_entry _ = 0
 
   -- of all entries
   abbrev pub of_entries : List Entry → ℕ
@@ -48,9 +46,7 @@ module _ (f : Act → ℕ) where
         | true ↦ omega arith
         | false ↦ omega arith
       ]
-  part_cons n k (Root lost masked thrown) ms = omega arith
-  part_cons n k (Death d) ms = omega arith
-  part_cons n k (Join p) ms = omega arith
+  part_cons n k _ ms = omega arith
 
   abbrev parts : ℕ → ℕ → Starts → Entry → ℕ
   parts n k [] e = 0
@@ -66,9 +62,7 @@ module _ (f : Act → ℕ) where
 -- the task of an entry is below n
 abbrev pub OfBelow : ℕ → Entry → Type 0
 OfBelow n (Step t act batch) = t.0 < n
-OfBelow n (Root lost masked thrown) = Unit {0}
-OfBelow n (Death d) = Unit {0}
-OfBelow n (Join p) = Unit {0}
+OfBelow n _ = Unit {0}
 
 abbrev pub AllOf : ℕ → List Entry → Type 0
 AllOf n [] = Unit {0}
@@ -91,9 +85,7 @@ module _ (f : Act → ℕ) where
 
   entry_hit : (n : ℕ) (ss : Starts) (e : Entry) → OfBelow (length ss) e → of_entry f e ≤ parts f n 0 ss e
   entry_hit n ss (Step t act batch) low = parts_hit n 0 ss t act batch (omega arith) (omega (arith, low))
-  entry_hit n ss (Root lost masked thrown) low = omega arith
-  entry_hit n ss (Death d) low = omega arith
-  entry_hit n ss (Join p) low = omega arith
+  entry_hit n ss _ low = omega arith
 
   -- where each entry's task is among the tasks, no entry is missed
   pub all_hit : (n : ℕ) (es : List Entry) (ss : Starts) → AllOf (length ss) es → of_entries f es ≤ of_tasks f n es 0 ss

@@ -5,7 +5,7 @@ use Rattle.std.proofs.lemmas.Bool.{eq-eqb, ne_eqb}
 use Rattle.std.proofs.lemmas.List.{append-nil}
 use Rattle.rx_rules.proofs.Common.{PlaceId, TaskId, Birth, birth_in, birth_from, birth_of, moves_from, started_by, death_number}
 use Rattle.rx_rules.specs.declared.entries.Act.{Act}
-use Rattle.rx_rules.specs.declared.entries.Act.TheVariants.{Open, At as Calls, Spawn, Arrive, Wait, Release, End, Print, Census}
+use Rattle.rx_rules.specs.declared.entries.Act.TheVariants.{At as Calls, Spawn}
 use Rattle.rx_rules.specs.declared.entries.Entry.{Entry}
 use Rattle.rx_rules.specs.declared.entries.Entry.TheVariants.{Step}
 use Rattle.rx_runs.specs.Ties.{birth_among}
@@ -20,15 +20,9 @@ abbrev pub StartsAt : ℕ → Act → Type 0
 StartsAt size act = IsNext size (started_by act)
 
 pub birth_other : (size n m : ℕ) (t : TaskId) (act : Act) (batch : List (List ℕ)) → StartsAt size act → size ≢ m → birth_in n m (Step t act batch) ≡ None
-birth_other size n m t (Open s r x) batch h o = refl
 birth_other size n m t (Calls from to s r c x) batch h o = rw (ne_eqb c.0 m (λ e. o (sym h ∙ e)))
 birth_other size n m t (Spawn c s from to x) batch h o = rw (ne_eqb c.0 m (λ e. o (sym h ∙ e)))
-birth_other size n m t (Arrive p) batch h o = refl
-birth_other size n m t (Wait s thrown) batch h o = refl
-birth_other size n m t (Release s lost masked thrown) batch h o = refl
-birth_other size n m t (End thrown) batch h o = refl
-birth_other size n m t (Print value x) batch h o = refl
-birth_other size n m t (Census places x) batch h o = refl
+birth_other size n m t _ batch h o = refl
 
 abbrev among_then : Option Birth → Option Birth → Option Birth
 among_then o rest = elim o [ Some b ↦ Some b | None ↦ rest ]

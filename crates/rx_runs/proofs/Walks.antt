@@ -1,6 +1,6 @@
 -- The local steps and store calls of a turn are one walk.
 use Rattle.std.proofs.Common.{◌≡◌, ℕ, List, [], ◌∷◌, ◌++◌, length, slice_get, Some, refl, ap, ◌∙◌, sym, subst}
-use Rattle.rx_rules.proofs.Common.{PlaceId, TaskId, Term, Vars, Answer, answered, vars_after, Does, Local, Makes, Gets, Puts, Forgets, Opens, Calls, Spawns, Waits, Releases, Prints, Counts, Done, does, Tells, begun, journal_at, State, after_cell, Given, Player, Game, RunsWithoutEntry, stays, local, stores, enabled, tree_in}
+use Rattle.rx_rules.proofs.Common.{PlaceId, TaskId, Term, Vars, Answer, answered, vars_after, Does, Local, Makes, Gets, Puts, Forgets, does, Tells, begun, journal_at, State, after_cell, Given, Player, Game, RunsWithoutEntry, stays, local, stores, enabled, tree_in}
 use Rattle.rx_rules.specs.declared.tasks.Where.TheVariants.{At}
 use Rattle.rx_rules.specs.declared.tasks.Task.{Task}
 use Rattle.rx_rules.specs.declared.entries.Act.{Act}
@@ -17,14 +17,7 @@ IsLast (Makes name words) = ⊥
 IsLast (Gets name target index) = ⊥
 IsLast (Puts target index value) = ⊥
 IsLast (Forgets target) = ⊥
-IsLast Opens = Unit {0}
-IsLast (Calls place) = Unit {0}
-IsLast (Spawns place) = Unit {0}
-IsLast (Waits faults) = Unit {0}
-IsLast Releases = Unit {0}
-IsLast (Prints value) = Unit {0}
-IsLast (Counts name) = Unit {0}
-IsLast (Done faults) = Unit {0}
+IsLast _ = Unit {0}
 
 pub fits_last : (here : PlaceId) (t : Term) (d : Does) (act : Act) → Fits here t d act → IsLast d
 fits_last here t (Local left vars) act h = h
@@ -32,29 +25,14 @@ fits_last here t (Makes name words) act h = h
 fits_last here t (Gets name target index) act h = h
 fits_last here t (Puts target index value) act h = h
 fits_last here t (Forgets target) act h = h
-fits_last here t Opens act h = tt
-fits_last here t (Calls place) act h = tt
-fits_last here t (Spawns place) act h = tt
-fits_last here t (Waits faults) act h = tt
-fits_last here t Releases act h = tt
-fits_last here t (Prints value) act h = tt
-fits_last here t (Counts name) act h = tt
-fits_last here t (Done faults) act h = tt
+fits_last here t _ act h = tt
 
 pub tells_not : (d : Does) (here : PlaceId) (c : Cell) (a : Answer) → Tells d here c a → IsLast d → ⊥
-tells_not (Local left vars) here c a h l = h
 tells_not (Makes name words) here c a h l = l
 tells_not (Gets name target index) here c a h l = l
 tells_not (Puts target index value) here c a h l = l
 tells_not (Forgets target) here c a h l = l
-tells_not Opens here c a h l = h
-tells_not (Calls place) here c a h l = h
-tells_not (Spawns place) here c a h l = h
-tells_not (Waits faults) here c a h l = h
-tells_not Releases here c a h l = h
-tells_not (Prints value) here c a h l = h
-tells_not (Counts name) here c a h l = h
-tells_not (Done faults) here c a h l = h
+tells_not _ here c a h l = h
 
 pub goes_once : {heap n : ℕ} {t : TaskId} {here : PlaceId} {p q r : Player} {S Z W : State} {j k l : List PlaceEvent} → RunsWithoutEntry heap n t here p S j q Z k → RunsWithoutEntry heap n t here p S j r W l → IsLast (does q.vars here.0 q.term) → IsLast (does r.vars here.0 r.term) → (q ≡ r) × (Z ≡ W) × (k ≡ l)
 goes_once stays stays a b = (refl, refl, refl)

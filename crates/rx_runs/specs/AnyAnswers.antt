@@ -8,7 +8,7 @@ use Rattle.rx_rules.specs.declared.entries.Entry.{Entry}
 use Rattle.rx_rules.specs.declared.events.PlaceEvent.{PlaceEvent}
 use Rattle.rx_rules.specs.Code.{Block, work}
 use Rattle.rx_rules.specs.Terms.{Term, Empty, Vars, no_vars, items, Answer, answered, vars_after, Does, Local, Makes, Gets, Puts}
-use Rattle.rx_rules.specs.Terms.{Forgets, Opens, Calls as Asks, Spawns, Waits, Releases, Prints, Counts, Done, does, granted}
+use Rattle.rx_rules.specs.Terms.{Forgets, Done, does, granted}
 use Rattle.rx_rules.specs.Fold.{births}
 use Rattle.rx_rules.specs.Plays.{Starts, Moves, Fits, StartsSo, brought, vars_told, moves_from, birth_of, travels}
 use Rattle.rx_rules.specs.Run.{Given, Proper, Folds, IsRun}
@@ -19,15 +19,7 @@ AsksStore (Makes name words) = Unit {0}
 AsksStore (Gets name target index) = Unit {0}
 AsksStore (Puts target index value) = Unit {0}
 AsksStore (Forgets target) = Unit {0}
-AsksStore (Local left vars) = ⊥
-AsksStore Opens = ⊥
-AsksStore (Asks place) = ⊥
-AsksStore (Spawns place) = ⊥
-AsksStore (Waits faults) = ⊥
-AsksStore Releases = ⊥
-AsksStore (Prints value) = ⊥
-AsksStore (Counts name) = ⊥
-AsksStore (Done faults) = ⊥
+AsksStore _ = ⊥
 
 -- so many steps of a term at a place, and the entries that they make: local steps, answers of the store, requests, the end
 pub data Works (starts : Starts) (here : PlaceId) : ℕ → Vars → Term → Moves → Type 0 where

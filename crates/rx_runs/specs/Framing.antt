@@ -13,13 +13,10 @@ use Rattle.rx_runs.specs.Games.{GameOk}
 
 -- the scopes in which a term stands, the innermost first: whether it waits there
 abbrev pub frames : Term → List Bool
-frames Empty = []
-frames (Raise faults) = []
-frames (Run stmt x rest) = []
-frames (Turns body x k times rest) = []
 frames (Trying inside dead_only handler x rest) = frames inside
 frames (Body inside rest) = frames inside ++ false ∷ []
 frames (Held rest) = true ∷ []
+frames _ = []
 
 -- the term waits
 abbrev pub first : List Bool → Bool
@@ -32,9 +29,7 @@ Flat Empty = Unit {0}
 Flat (Raise faults) = Unit {0}
 Flat (Run stmt x rest) = Flat rest
 Flat (Turns body x k times rest) = Flat rest
-Flat (Trying inside dead_only handler x rest) = ⊥
-Flat (Body inside rest) = ⊥
-Flat (Held rest) = ⊥
+Flat _ = ⊥
 
 -- what comes after an item is flat
 abbrev pub FlatAfterItem : Term → Type 0

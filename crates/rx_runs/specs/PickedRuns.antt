@@ -2,7 +2,7 @@
 use Rattle.std.specs.Prelude.{◌≡◌, ℕ, ◌<◌, ◌^◌, ◌%◌, Bool, List, [], ◌∷◌, map}
 use Rattle.rx_base.specs.declared.place_set.PlaceSet.{PlaceSet}
 use Rattle.rx_rules.specs.declared.entries.Act.{Act}
-use Rattle.rx_rules.specs.declared.entries.Act.TheVariants.{Open, At as Calls, Spawn, Arrive, Wait, Release, End, Print, Census}
+use Rattle.rx_rules.specs.declared.entries.Act.TheVariants.{Release}
 use Rattle.rx_rules.specs.declared.entries.Entry.{Entry}
 use Rattle.rx_rules.specs.declared.entries.Entry.TheVariants.{Step, Root, Death, Join}
 use Rattle.rx_rules.specs.declared.events.PlaceEvent.{PlaceEvent}
@@ -17,15 +17,8 @@ PickedIsRun = (code : Block) (U : Given) (picks : ℕ → ℕ) (es : List Entry)
 
 -- the set of places of an act has 16 bits, as its type has them
 abbrev pub ActFits : Act → Type 0
-ActFits (Open s r x) = Unit {0}
-ActFits (Calls from to s r c x) = Unit {0}
-ActFits (Spawn c s from to x) = Unit {0}
-ActFits (Arrive p) = Unit {0}
-ActFits (Wait s thrown) = Unit {0}
 ActFits (Release s lost masked thrown) = lost.0 < 2 ^ 16
-ActFits (End thrown) = Unit {0}
-ActFits (Print value x) = Unit {0}
-ActFits (Census places x) = Unit {0}
+ActFits _ = Unit {0}
 
 -- the same of each entry
 abbrev pub SetsFit : List Entry → Type 0

@@ -3,10 +3,10 @@ use Rattle.std.specs.Prelude.{◌≡◌, ℕ, ◌<◌, List, Some, slice_get}
 use Rattle.rx_base.specs.declared.ids.PlaceId.{PlaceId}
 use Rattle.rx_base.specs.declared.ids.TaskId.{TaskId}
 use Rattle.rx_rules.specs.declared.events.PlaceEvent.{PlaceEvent}
-use Rattle.rx_rules.specs.Code.{Block, Nothing, Then, Stmt, SetTo, New, Get, Put, Forget, Census, Print, Throw, Async, AtAsync, At, Finish}
+use Rattle.rx_rules.specs.Code.{Block, Nothing, Then, Stmt, New, Async, AtAsync, At, Finish}
 use Rattle.rx_rules.specs.Code.{If, Repeat, Try}
-use Rattle.rx_rules.specs.Terms.{Term, Empty, Run, Raise, Turns, Trying, Body, Held, Does, Local, Makes, Gets, Puts, Forgets, Opens}
-use Rattle.rx_rules.specs.Terms.{Calls, Spawns, Waits, Releases, Prints, Counts, Done, Vars, does}
+use Rattle.rx_rules.specs.Terms.{Term, Empty, Run, Raise, Turns, Trying, Body, Held, Does, Makes}
+use Rattle.rx_rules.specs.Terms.{Vars, does}
 use Rattle.rx_rules.specs.Store.{State}
 use Rattle.rx_rules.specs.Run.{Given}
 use Rattle.rx_rules.specs.Picked.{Player, Game, RunsWithoutEntry, MadeByTurns}
@@ -14,14 +14,7 @@ use Rattle.rx_rules.specs.Picked.{Player, Game, RunsWithoutEntry, MadeByTurns}
 -- so it is in a statement and in a block
 abbrev mutual
   pub StmtMakesSome : Stmt → Type 0
-  StmtMakesSome (SetTo name value) = Unit {0}
   StmtMakesSome (New name words) = 0 < words
-  StmtMakesSome (Get name target index) = Unit {0}
-  StmtMakesSome (Put target index value) = Unit {0}
-  StmtMakesSome (Forget target) = Unit {0}
-  StmtMakesSome (Census name) = Unit {0}
-  StmtMakesSome (Print value) = Unit {0}
-  StmtMakesSome (Throw value) = Unit {0}
   StmtMakesSome (Async body) = MakesSome body
   StmtMakesSome (AtAsync place body) = MakesSome body
   StmtMakesSome (At place body) = MakesSome body
@@ -29,6 +22,7 @@ abbrev mutual
   StmtMakesSome (If test first other) = MakesSome first × MakesSome other
   StmtMakesSome (Repeat times body) = MakesSome body
   StmtMakesSome (Try body dead_only handler) = MakesSome body × MakesSome handler
+  StmtMakesSome _ = Unit {0}
 
   pub MakesSome : Block → Type 0
   MakesSome Nothing = Unit {0}
@@ -46,19 +40,8 @@ TermMakesSome (Held rest) = TermMakesSome rest
 
 -- what a term does next asks for at least one word, where it makes a block
 abbrev pub AsksSome : Does → Type 0
-AsksSome (Local left vars) = Unit {0}
 AsksSome (Makes name words) = 0 < words
-AsksSome (Gets name target index) = Unit {0}
-AsksSome (Puts target index value) = Unit {0}
-AsksSome (Forgets target) = Unit {0}
-AsksSome Opens = Unit {0}
-AsksSome (Calls place) = Unit {0}
-AsksSome (Spawns place) = Unit {0}
-AsksSome (Waits faults) = Unit {0}
-AsksSome Releases = Unit {0}
-AsksSome (Prints value) = Unit {0}
-AsksSome (Counts name) = Unit {0}
-AsksSome (Done faults) = Unit {0}
+AsksSome _ = Unit {0}
 
 -- in each game that turns have made from the opening the terms are so, where the script is
 abbrev pub ComesSome : Type 0

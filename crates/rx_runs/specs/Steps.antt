@@ -2,8 +2,8 @@
 use Rattle.std.specs.Prelude.{ℕ, ◌+◌, ◌-◌, ◌*◌, ◌≤◌, List, []}
 use Rattle.rx_base.specs.declared.values.Fault.{Fault}
 use Rattle.rx_rules.specs.Code.{work, work_of}
-use Rattle.rx_rules.specs.Terms.{Term, Empty, Raise, Run, Turns, Trying, Body, Held, Answer, answered, Does, Local, Makes, Gets, Puts}
-use Rattle.rx_rules.specs.Terms.{Forgets, Opens, Calls, Spawns, Waits, Releases, Prints, Counts, Done, granted, child, Vars, does}
+use Rattle.rx_rules.specs.Terms.{Term, Empty, Raise, Run, Turns, Trying, Body, Held, Answer, answered, Does, Local}
+use Rattle.rx_rules.specs.Terms.{Opens, Calls, Spawns, Waits, Releases, Prints, Counts, Done, granted, child, Vars, does}
 
 -- at most three for each unit of work
 abbrev pub steps : Term → ℕ
@@ -19,10 +19,6 @@ steps (Held rest) = 1 + steps rest
 -- `entry`, and by what the new task brings.
 abbrev pub Falls : (Term → ℕ) → (Term → ℕ) → ℕ → ℕ → ℕ → Term → Does → Type 0
 Falls size brings step call entry t (Local after vars) = size after + step ≤ size t
-Falls size brings step call entry t (Makes name words) = (a : Answer) → size (answered a t) + call ≤ size t
-Falls size brings step call entry t (Gets name target index) = (a : Answer) → size (answered a t) + call ≤ size t
-Falls size brings step call entry t (Puts target index value) = (a : Answer) → size (answered a t) + call ≤ size t
-Falls size brings step call entry t (Forgets target) = (a : Answer) → size (answered a t) + call ≤ size t
 Falls size brings step call entry t Opens = size (granted [] t) + entry ≤ size t
 Falls size brings step call entry t (Calls p) = size (granted [] t) + (brings (child t) + entry) ≤ size t
 Falls size brings step call entry t (Spawns p) = size (granted [] t) + (brings (child t) + entry) ≤ size t
@@ -31,6 +27,7 @@ Falls size brings step call entry t Releases = (faults : List Fault) → size (g
 Falls size brings step call entry t (Prints value) = size (granted [] t) + entry ≤ size t
 Falls size brings step call entry t (Counts name) = size (granted [] t) + entry ≤ size t
 Falls size brings step call entry t (Done faults) = Unit {0}
+Falls size brings step call entry t _ = (a : Answer) → size (answered a t) + call ≤ size t
 
 -- a task that is started brings its steps and its end
 abbrev pub started_steps : Term → ℕ

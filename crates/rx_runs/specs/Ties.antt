@@ -79,9 +79,7 @@ MayBe here es xs (Root lost masked thrown) = ⊥
 -- how many places are there after the event
 abbrev pub places_after : Entry → ℕ → ℕ
 places_after (Join p) here = suc here
-places_after (Death d) here = here
-places_after (Step t act batch) here = here
-places_after (Root lost masked thrown) here = here
+places_after _ here = here
 
 -- what may come after the entries, where so many places are there: after it there are `all`
 abbrev pub MayCome : ℕ → ℕ → List Entry → List Event → Type 0

@@ -1,10 +1,10 @@
 -- What a reader has read of the tokens.
 use Rattle.std.proofs.Common.{◌≡◌, ◌+◌, ◌<◌, ◌≤◌, ◌^◌, List, [], ◌∷◌, ◌++◌, length, vec_len, refl, ap, sym, ◌∙◌, subst, arith, append-nil, length-append, Vec, Global, true, false, Some, Result, Ok, Err, IfOk, option_and_then, slice_get}
 use Rattle.rx_base.proofs.Elements.{get-last}
-use Rattle.rx_rules.proofs.Common.{Stmt, SetTo, New, Get, Put, Forget, Census, Print, Throw, Async, AtAsync, At, Finish, If, Repeat, Try, Block}
+use Rattle.rx_rules.proofs.Common.{Stmt, SetTo, Block}
 use Rattle.rx_syntax.specs.Shape.{Shape, IsSmall, ListStands, BlockStands}
 use Rattle.rx_syntax.specs.Grammar.{spelling}
-use Rattle.rx_script.specs.Inside.Items.{Opener, ByAsync, ByAtAsync, ByAt, ByFinish, ByIf, ByRepeat, ByTry, Item, Whole, Open, Close, Else, Catch, item_words, opener_words, item_at, Mode, Outermost}
+use Rattle.rx_script.specs.Inside.Items.{Opener, ByAsync, Item, Whole, Open, Close, Else, Catch, item_words, opener_words, item_at, Mode, Outermost}
 use Rattle.rx_script.specs.Inside.Machine.{Frame, Waits, Free, ForElse, ForCatch, BlocksRead, free, step, items_run, mode_in, mode}
 use Rattle.rx_script.specs.Inside.Pieces.{mode_of, Grows, ItemStands, IsItemAnswer}
 use Rattle.rx_script.specs.Places.{IsPlace}
@@ -36,29 +36,11 @@ pub record HasRead (r : Reader) (tokens rest : List Token) : Type 0 where
 -- an item has a token
 spelling-some : (s : Stmt) → 0 < length (spelling s)
 spelling-some (SetTo n e) = omega arith
-spelling-some (New n k) = omega arith
-spelling-some (Get n t e) = omega arith
-spelling-some (Put t i e) = omega arith
-spelling-some (Forget t) = omega arith
-spelling-some (Census n) = omega arith
-spelling-some (Print e) = omega arith
-spelling-some (Throw e) = omega arith
-spelling-some (Async b) = omega arith
-spelling-some (AtAsync e b) = omega arith
-spelling-some (At e b) = omega arith
-spelling-some (Finish b) = omega arith
-spelling-some (If e a b) = omega arith
-spelling-some (Repeat n b) = omega arith
-spelling-some (Try a d b) = omega arith
+spelling-some _ = omega arith
 
 opener-some : (o : Opener) → 0 < length (opener_words o)
 opener-some ByAsync = omega arith
-opener-some (ByAtAsync e) = omega arith
-opener-some (ByAt e) = omega arith
-opener-some ByFinish = omega arith
-opener-some (ByIf e) = omega arith
-opener-some (ByRepeat n) = omega arith
-opener-some ByTry = omega arith
+opener-some _ = omega arith
 
 item-some : (x : Item) → 0 < length (item_words x)
 item-some (Whole s) = spelling-some s

@@ -56,11 +56,8 @@ words-two xs ys m ts us e f =
 mutual
   words-stmt : (t : Stmt) → words (items_of t) ≡ spelling t
   words-stmt (SetTo n e) = append-nil (spelling (SetTo n e))
-  words-stmt (New n k) = refl
   words-stmt (Get n t e) = append-nil (spelling (Get n t e))
   words-stmt (Put t i e) = append-nil (spelling (Put t i e))
-  words-stmt (Forget t) = refl
-  words-stmt (Census n) = refl
   words-stmt (Print e) = append-nil (spelling (Print e))
   words-stmt (Throw e) = append-nil (spelling (Throw e))
   words-stmt (Async b) = words-block ByAsync (all_items b) (spellings b) (words-all b)
@@ -70,6 +67,7 @@ mutual
   words-stmt (If e a b) = ap (λ us. opener_words (ByIf e) ++ us) (words-two (all_items a) (all_items b) Else (spellings a) (spellings b) (words-all a) (words-all b))
   words-stmt (Repeat n b) = words-block (ByRepeat n) (all_items b) (spellings b) (words-all b)
   words-stmt (Try a d b) = ap (λ us. opener_words ByTry ++ us) (words-two (all_items a) (all_items b) (Catch d) (spellings a) (spellings b) (words-all a) (words-all b))
+  words-stmt _ = refl
 
   pub words-all : (ts : Block) → words (all_items ts) ≡ spellings ts
   words-all Nothing = refl
@@ -98,14 +96,6 @@ run-body b outer more rest e = ap (items_run (free outer Nothing)) (append_assoc
 -- each script is run to its own statements
 mutual
   run-stmt : (t : Stmt) (outer : List (Block × Frame)) (ds : Block) (rest : List Item) → items_run (free outer ds) (items_of t ++ rest) ≡ items_run (free outer (added ds t)) rest
-  run-stmt (SetTo n e) outer ds rest = refl
-  run-stmt (New n k) outer ds rest = refl
-  run-stmt (Get n t e) outer ds rest = refl
-  run-stmt (Put t i e) outer ds rest = refl
-  run-stmt (Forget t) outer ds rest = refl
-  run-stmt (Census n) outer ds rest = refl
-  run-stmt (Print e) outer ds rest = refl
-  run-stmt (Throw e) outer ds rest = refl
   run-stmt (Async b) outer ds rest = run-body b ((ds, Fore ByAsync) ∷ outer) [] rest (run-all b ((ds, Fore ByAsync) ∷ outer) Nothing (Close ∷ ([] ++ rest)))
   run-stmt (AtAsync e b) outer ds rest = run-body b ((ds, Fore (ByAtAsync e)) ∷ outer) [] rest (run-all b ((ds, Fore (ByAtAsync e)) ∷ outer) Nothing (Close ∷ ([] ++ rest)))
   run-stmt (At e b) outer ds rest = run-body b ((ds, Fore (ByAt e)) ∷ outer) [] rest (run-all b ((ds, Fore (ByAt e)) ∷ outer) Nothing (Close ∷ ([] ++ rest)))
@@ -113,6 +103,7 @@ mutual
   run-stmt (If e a b) outer ds rest = run-body a ((ds, Fore (ByIf e)) ∷ outer) (Else ∷ (all_items b ++ Close ∷ [])) rest (run-all a ((ds, Fore (ByIf e)) ∷ outer) Nothing (Close ∷ ((Else ∷ (all_items b ++ Close ∷ [])) ++ rest))) ∙ run-body b ((ds, Other e a) ∷ outer) [] rest (run-all b ((ds, Other e a) ∷ outer) Nothing (Close ∷ ([] ++ rest)))
   run-stmt (Repeat n b) outer ds rest = run-body b ((ds, Fore (ByRepeat n)) ∷ outer) [] rest (run-all b ((ds, Fore (ByRepeat n)) ∷ outer) Nothing (Close ∷ ([] ++ rest)))
   run-stmt (Try a d b) outer ds rest = run-body a ((ds, Fore ByTry) ∷ outer) (Catch d ∷ (all_items b ++ Close ∷ [])) rest (run-all a ((ds, Fore ByTry) ∷ outer) Nothing (Close ∷ ((Catch d ∷ (all_items b ++ Close ∷ [])) ++ rest))) ∙ run-body b ((ds, Handler a d) ∷ outer) [] rest (run-all b ((ds, Handler a d) ∷ outer) Nothing (Close ∷ ([] ++ rest)))
+  run-stmt _ outer ds rest = refl
 
   run-all : (ts : Block) (outer : List (Block × Frame)) (ds : Block) (rest : List Item) → items_run (free outer ds) (all_items ts ++ rest) ≡ items_run (free outer (joined ds ts)) rest
   run-all Nothing outer ds rest = ap (λ d. items_run (free outer d) rest) (sym (joined-nothing ds))

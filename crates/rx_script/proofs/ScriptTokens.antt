@@ -1,6 +1,6 @@
 -- What is scanned as the tokens of a tree is a script.
 use Rattle.std.proofs.Common.{ℕ, List, [], ◌∷◌, ◌++◌, length, Bool, true, false}
-use Rattle.rx_rules.proofs.Common.{Expr, Num, Name, Here, Bin, Stmt, SetTo, New, Get, Put, Forget, Census, Print, Throw, Async, AtAsync, At, Finish, If, Repeat, Try, Block, Nothing, Then}
+use Rattle.rx_rules.proofs.Common.{Expr, Bin, Stmt, SetTo, Get, Put, Print, Throw, Async, AtAsync, At, Finish, If, Repeat, Try, Block, Nothing, Then}
 use Rattle.rx_syntax.specs.declared.token.Sign.TheVariants.{CloseBrace}
 use Rattle.rx_syntax.specs.declared.token.Token.{Token}
 use Rattle.rx_syntax.specs.declared.token.Token.TheVariants.{Mark}
@@ -11,10 +11,8 @@ use Rattle.rx_syntax.proofs.Scanning.{NoBad, no-bad-more, scans-begins}
 
 -- no bad token is among the tokens of a tree
 no-bad-expr : (e : Expr) → NoBad (spell e)
-no-bad-expr (Num n) = tt
-no-bad-expr (Name n) = tt
-no-bad-expr Here = tt
 no-bad-expr (Bin o a b) = no-bad-more (spell a) _ (no-bad-expr a) (no-bad-more (spell b) _ (no-bad-expr b) tt)
+no-bad-expr _ = tt
 
 no-bad-catch : (d : Bool) (ts : List Token) → NoBad ts → NoBad (catch_words d ++ ts)
 no-bad-catch true ts b = b
@@ -29,11 +27,8 @@ no-bad-front e ts us b c = no-bad-more (spell e ++ ts) us (no-bad-more (spell e)
 mutual
   no-bad-stmt : (t : Stmt) → NoBad (spelling t)
   no-bad-stmt (SetTo n e) = no-bad-more (spell e) _ (no-bad-expr e) tt
-  no-bad-stmt (New n k) = tt
   no-bad-stmt (Get n t e) = no-bad-more (spell e) _ (no-bad-expr e) tt
   no-bad-stmt (Put t i e) = no-bad-more (spell i) _ (no-bad-expr i) (no-bad-more (spell e) _ (no-bad-expr e) tt)
-  no-bad-stmt (Forget t) = tt
-  no-bad-stmt (Census n) = tt
   no-bad-stmt (Print e) = no-bad-more (spell e) _ (no-bad-expr e) tt
   no-bad-stmt (Throw e) = no-bad-more (spell e) _ (no-bad-expr e) tt
   no-bad-stmt (Async b) = no-bad-block (spellings b) [] (no-bad b) tt
@@ -43,6 +38,7 @@ mutual
   no-bad-stmt (If e a b) = no-bad-front e _ _ tt (no-bad-block (spellings a) _ (no-bad a) (no-bad-block (spellings b) [] (no-bad b) tt))
   no-bad-stmt (Repeat n b) = no-bad-block (spellings b) [] (no-bad b) tt
   no-bad-stmt (Try a d b) = no-bad-block (spellings a) _ (no-bad a) (no-bad-catch d _ (no-bad-block (spellings b) [] (no-bad b) tt))
+  no-bad-stmt _ = tt
 
   no-bad : (b : Block) → NoBad (spellings b)
   no-bad Nothing = tt

@@ -1,7 +1,7 @@
 -- Items that run to a list of statements are its items.
 use Rattle.std.proofs.Common.{◌≡◌, List, [], ◌∷◌, ◌++◌, refl, ap, sym, ◌∙◌, subst, append_assoc, append-nil, Some}
 use Rattle.std.proofs.lemmas.Option.{same_Some}
-use Rattle.rx_rules.proofs.Common.{Stmt, Block, Nothing, Then, SetTo, New, Get, Put, Forget, Census, Print, Throw, Async, AtAsync, At, Finish, If, Repeat, Try}
+use Rattle.rx_rules.proofs.Common.{Stmt, Block, Nothing, Then, New, Async, AtAsync, At, Finish, If, Repeat, Try}
 use Rattle.rx_syntax.specs.Grammar.{InRange, AllInRange}
 use Rattle.rx_script.specs.Inside.Items.{ByAsync, ByAtAsync, ByAt, ByFinish, ByIf, ByRepeat, ByTry, Item, Whole, Open, Close, Else, Catch, IsItem, IsSimple}
 use Rattle.rx_script.specs.Inside.Machine.{added, Frame, Fore, Other, Handler, Waits, Free, ForElse, ForCatch, BlocksRead, free, ended, closed, item_stepped, step, items_run}
@@ -35,14 +35,6 @@ items-added Nothing t = append-nil (items_of t)
 items-added (Then u us) t = ap (λ xs. items_of u ++ xs) (items-added us t) ∙ sym (append_assoc (items_of u) (all_items us) (items_of t))
 
 items-simple : (s : Stmt) → IsSimple s → items_of s ≡ Whole s ∷ []
-items-simple (SetTo n e) i = refl
-items-simple (New n k) i = refl
-items-simple (Get n t e) i = refl
-items-simple (Put t p e) i = refl
-items-simple (Forget t) i = refl
-items-simple (Census n) i = refl
-items-simple (Print e) i = refl
-items-simple (Throw e) i = refl
 items-simple (Async b) i = absurd i
 items-simple (AtAsync e b) i = absurd i
 items-simple (At e b) i = absurd i
@@ -50,6 +42,7 @@ items-simple (Finish b) i = absurd i
 items-simple (If e a b) i = absurd i
 items-simple (Repeat n b) i = absurd i
 items-simple (Try a d b) i = absurd i
+items-simple _ i = refl
 
 ends-block : (p q all front b : List Item) (x : Item) → all ≡ q ++ (front ++ (b ++ x ∷ [])) → (p ++ all) ++ [] ≡ ((((p ++ q) ++ front) ++ b) ++ []) ++ x ∷ []
 ends-block p q all front b x e = ap (λ us. (p ++ us) ++ []) e ∙ (simp (append_assoc, append-nil))
@@ -125,14 +118,7 @@ all-rest (x ∷ xs) ys i = all-rest xs ys i.1
 -- the numbers are in their ranges where the items are such
 mutual
   stmt-items : (t : Stmt) → InRange t → AllItems (items_of t)
-  stmt-items (SetTo n e) f = (tt, tt)
   stmt-items (New n k) f = (f, tt)
-  stmt-items (Get n t e) f = (tt, tt)
-  stmt-items (Put t i e) f = (tt, tt)
-  stmt-items (Forget t) f = (tt, tt)
-  stmt-items (Census n) f = (tt, tt)
-  stmt-items (Print e) f = (tt, tt)
-  stmt-items (Throw e) f = (tt, tt)
   stmt-items (Async b) f = (tt, all-append (all_items b) (Close ∷ []) (fit-items b f) (tt, tt))
   stmt-items (AtAsync e b) f = (tt, all-append (all_items b) (Close ∷ []) (fit-items b f) (tt, tt))
   stmt-items (At e b) f = (tt, all-append (all_items b) (Close ∷ []) (fit-items b f) (tt, tt))
@@ -140,6 +126,7 @@ mutual
   stmt-items (If e a b) f = (tt, all-append (all_items a) (Close ∷ Else ∷ (all_items b ++ Close ∷ [])) (fit-items a f.0) (tt, (tt, all-append (all_items b) (Close ∷ []) (fit-items b f.1) (tt, tt))))
   stmt-items (Repeat n b) f = (f.0, all-append (all_items b) (Close ∷ []) (fit-items b f.1) (tt, tt))
   stmt-items (Try a d b) f = (tt, all-append (all_items a) (Close ∷ Catch d ∷ (all_items b ++ Close ∷ [])) (fit-items a f.0) (tt, (tt, all-append (all_items b) (Close ∷ []) (fit-items b f.1) (tt, tt))))
+  stmt-items _ f = (tt, tt)
 
   pub fit-items : (ts : Block) → AllInRange ts → AllItems (all_items ts)
   fit-items Nothing f = tt
@@ -147,14 +134,7 @@ mutual
 
 mutual
   items-stmt : (t : Stmt) → AllItems (items_of t) → InRange t
-  items-stmt (SetTo n e) i = tt
   items-stmt (New n k) i = i.0
-  items-stmt (Get n t e) i = tt
-  items-stmt (Put t p e) i = tt
-  items-stmt (Forget t) i = tt
-  items-stmt (Census n) i = tt
-  items-stmt (Print e) i = tt
-  items-stmt (Throw e) i = tt
   items-stmt (Async b) i = items-fit b (all-front (all_items b) (Close ∷ []) i.1)
   items-stmt (AtAsync e b) i = items-fit b (all-front (all_items b) (Close ∷ []) i.1)
   items-stmt (At e b) i = items-fit b (all-front (all_items b) (Close ∷ []) i.1)
@@ -168,6 +148,7 @@ mutual
     items-fit a (all-front (all_items a) (Close ∷ Catch d ∷ (all_items b ++ Close ∷ [])) i.1),
     items-fit b (all-front (all_items b) (Close ∷ []) (all-rest (all_items a) (Close ∷ Catch d ∷ (all_items b ++ Close ∷ [])) i.1).1.1),
   )
+  items-stmt _ i = tt
 
   pub items-fit : (ts : Block) → AllItems (all_items ts) → AllInRange ts
   items-fit Nothing i = tt

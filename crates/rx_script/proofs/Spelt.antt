@@ -4,7 +4,7 @@ use Rattle.rx_syntax.specs.declared.token.Token.{Token}
 use Rattle.rx_syntax.specs.declared.token.Token.TheVariants.{Key, Called, Number, Oper, Mark}
 use Rattle.rx_syntax.specs.declared.token.Keyword.TheVariants.{Here as KHere, Set as KSet, New as KNew, Get as KGet, Put as KPut, Forget as KForget, Census as KCensus, Print as KPrint, Throw as KThrow, Async as KAsync, At as KAt, Finish as KFinish, If as KIf, Else as KElse, Repeat as KRepeat, Try as KTry, Catch as KCatch, Dead as KDead}
 use Rattle.rx_syntax.specs.declared.token.Sign.TheVariants.{OpenParen as LParen, CloseParen as RParen, OpenBrace as LBrace, CloseBrace as RBrace, OpenSquare as LSquare, CloseSquare as RSquare, Equals, Semicolon}
-use Rattle.rx_rules.proofs.Common.{Expr, Num, Name, Here, Bin, Stmt, SetTo, New, Get, Put, Forget, Census, Print, Throw, Async, AtAsync, At, Finish, If, Repeat, Try, Add}
+use Rattle.rx_rules.proofs.Common.{Expr, Num, Name, Here, Bin, Stmt, SetTo, New, Get, Put, Forget, Census, Print, Throw, Add}
 use Rattle.rx_syntax.specs.Grammar.{may_hold, may_turn, spell}
 use Rattle.rx_rules.specs.Code.{Op, Sub, Mul, Less, Equal}
 use Rattle.rx_syntax.specs.declared.token.Op.{Op as Operation}
@@ -17,10 +17,7 @@ use Rattle.rx_script.specs.Inside.Items.{Opener, ByAsync, ByAtAsync, ByAt, ByFin
 
 op-of-sign : (o : Op) → op_of (sign_of o) ≡ o
 op-of-sign Add = refl
-op-of-sign Sub = refl
-op-of-sign Mul = refl
-op-of-sign Less = refl
-op-of-sign Equal = refl
+op-of-sign _ = refl
 
 pub sign-of-op : (o : Operation) → sign_of (op_of o) ≡ o
 sign-of-op signs.Add = refl
@@ -31,15 +28,13 @@ sign-of-op signs.Equal = refl
 
 -- an expression is read from its tokens, whatever follows and whatever is open
 pub again-expr : (e : Expr) (rest : List Token) (pairs : List Pair) → operand (spell e ++ rest) pairs ≡ whole rest pairs e
-again-expr (Num n) rest pairs = refl
-again-expr (Name n) rest pairs = refl
-again-expr Here rest pairs = refl
 again-expr (Bin o a b) rest pairs =
     ap (λ ts. operand ts (First ∷ pairs)) (append_assoc (spell a) _ rest)
     ∙ again-expr a (Oper (sign_of o) ∷ ((spell b ++ Mark RParen ∷ []) ++ rest)) (First ∷ pairs)
     ∙ ap (λ p. operand ((spell b ++ Mark RParen ∷ []) ++ rest) (Second a p ∷ pairs)) (op-of-sign o)
     ∙ ap (λ ts. operand ts (Second a o ∷ pairs)) (append_assoc (spell b) (Mark RParen ∷ []) rest)
     ∙ again-expr b (Mark RParen ∷ rest) (Second a o ∷ pairs)
+again-expr _ rest pairs = refl
 
 -- the tokens of the open pairs
 abbrev before : List Pair → List Token
@@ -235,22 +230,14 @@ again-simple (Forget t) i rest = refl
 again-simple (Census n) i rest = refl
 again-simple (Print e) i rest = back (λ e. ends (Whole (Print e))) e _ rest _ refl
 again-simple (Throw e) i rest = back (λ e. ends (Whole (Throw e))) e _ rest _ refl
-again-simple (Async b) i rest = absurd i
-again-simple (AtAsync e b) i rest = absurd i
-again-simple (At e b) i rest = absurd i
-again-simple (Finish b) i rest = absurd i
-again-simple (If e a b) i rest = absurd i
-again-simple (Repeat n b) i rest = absurd i
-again-simple (Try a d b) i rest = absurd i
+again-simple _ i rest = absurd i
 
 again-opener : (o : Opener) → IsOpener o → Again statement (Open o)
-again-opener ByAsync i rest = refl
 again-opener (ByAtAsync e) i rest = back (λ e. choose (at_body e)) e _ rest _ refl
 again-opener (ByAt e) i rest = back (λ e. choose (at_body e)) e _ rest _ refl
-again-opener ByFinish i rest = refl
 again-opener (ByIf e) i rest = back (λ e. opens (Open (ByIf e))) e _ rest _ refl
 again-opener (ByRepeat n) i rest = back-range may_turn (λ n. opens (Open (ByRepeat n))) n _ _ i refl
-again-opener ByTry i rest = refl
+again-opener _ i rest = refl
 
 again-inside-simple : (s : Stmt) → IsSimple s → Again statement_or_end (Whole s)
 again-inside-simple (SetTo n e) i rest = again-simple (SetTo n e) i rest
@@ -261,22 +248,14 @@ again-inside-simple (Forget t) i rest = refl
 again-inside-simple (Census n) i rest = refl
 again-inside-simple (Print e) i rest = again-simple (Print e) i rest
 again-inside-simple (Throw e) i rest = again-simple (Throw e) i rest
-again-inside-simple (Async b) i rest = absurd i
-again-inside-simple (AtAsync e b) i rest = absurd i
-again-inside-simple (At e b) i rest = absurd i
-again-inside-simple (Finish b) i rest = absurd i
-again-inside-simple (If e a b) i rest = absurd i
-again-inside-simple (Repeat n b) i rest = absurd i
-again-inside-simple (Try a d b) i rest = absurd i
+again-inside-simple _ i rest = absurd i
 
 again-inside-opener : (o : Opener) → IsOpener o → Again statement_or_end (Open o)
-again-inside-opener ByAsync i rest = refl
 again-inside-opener (ByAtAsync e) i rest = again-opener (ByAtAsync e) i rest
 again-inside-opener (ByAt e) i rest = again-opener (ByAt e) i rest
-again-inside-opener ByFinish i rest = refl
 again-inside-opener (ByIf e) i rest = again-opener (ByIf e) i rest
 again-inside-opener (ByRepeat n) i rest = again-opener (ByRepeat n) i rest
-again-inside-opener ByTry i rest = refl
+again-inside-opener _ i rest = refl
 
 -- an item is read from its tokens, whatever follows, where it may stand
 pub again : (m : Mode) (x : Item) → IsHere m x → (rest : List Token) → item_at m (item_words x ++ rest) ≡ Ok (x, rest)

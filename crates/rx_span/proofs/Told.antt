@@ -3,7 +3,7 @@ use Rattle.std.proofs.Common.{◌≡◌, ℕ, zero, suc, ◌+◌, ◌<◌, ◌�
 use Rattle.std.specs.List.{filter_map, cons_option}
 use Rattle.std.proofs.lemmas.Bool.{eq-eqb, cond_both, cases_lt}
 use Rattle.std.proofs.lemmas.Option.{same_Some}
-use Rattle.rx_rules.proofs.Common.{PlaceId, TaskId, Stmt, Async, AtAsync, At, Finish, If, Repeat, Try, Block, Nothing, Then, Term, Empty, Run, Raise, Turns, Trying, Body, Held, Vars, Does, Answer, Gives, Fine, Fails, begins, answered, child, items, no_vars, after_it, Opens, Calls, Spawns, Waits, Releases, Prints, Counts, Plays, asks, ends, stops, BeginsWithArrival, EachPlays, StartsSo, begun, brought, started_by, moves_from, birth_of, travels, cell_of, journal_at, told, own_path, Tree, AllowedAct, made, opening, AllAllowed, births_of, Reached, IsOlder, opens}
+use Rattle.rx_rules.proofs.Common.{PlaceId, TaskId, Stmt, Async, AtAsync, At, Finish, If, Repeat, Try, Block, Nothing, Then, Term, Empty, Run, Raise, Trying, Body, Vars, Does, Answer, Gives, Fine, Fails, begins, answered, child, items, no_vars, after_it, Opens, Calls, Spawns, Waits, Releases, Prints, Counts, Plays, asks, ends, stops, BeginsWithArrival, EachPlays, StartsSo, begun, brought, started_by, moves_from, birth_of, travels, cell_of, journal_at, told, own_path, Tree, AllowedAct, made, opening, AllAllowed, births_of, Reached, IsOlder, opens}
 use Rattle.rx_rules.specs.declared.events.Cell.{Cell}
 use Rattle.rx_rules.specs.declared.events.PlaceEvent.{PlaceEvent}
 use Rattle.rx_rules.specs.declared.entries.Act.{Act}
@@ -46,13 +46,10 @@ found-path code (i ∷ x) u e = found-names_in code i x u e
 
 -- what a term begins is a path of the script
 begins-path : (code : Block) (t : Term) (x : List ℕ) → Coded code t → begins t ≡ Some x → IsPath code x
-begins-path code Empty x c h = cc
-begins-path code (Raise faults) x c h = cc
 begins-path code (Run stmt y rest) x c h = let e : y ≡ x = cc in subst (IsPath code) e (found-path code y stmt c.0)
-begins-path code (Turns body y k times rest) x c h = cc
 begins-path code (Trying inside dead_only handler y rest) x c h = begins-path code inside x c.0 h
 begins-path code (Body inside rest) x c h = begins-path code inside x c.0 h
-begins-path code (Held rest) x c h = cc
+begins-path code _ x c h = cc
 
 are-append : (code : Block) (xs ys : List (List ℕ)) → ArePaths code xs → ArePaths code ys → ArePaths code (xs ++ ys)
 are-append code [] ys h k = k
@@ -127,9 +124,7 @@ module _ (code : Block) (starts : List (Term × Vars)) where
   moves-later : (n : ℕ) (e : Entry) (es : List Entry) (c : ℕ) → MovesOk (moves_from n (e ∷ es) c) → MovesOk (moves_from (suc n) es c)
   moves-later n (Step t act batch) es c =
       cond_both (t.0 == c) (Some (n, act, batch)) None (λ o. MovesOk (cons_option o (moves_from (suc n) es c)) → MovesOk (moves_from (suc n) es c)) (λ e h. h.2) (λ e h. h)
-  moves-later n (Root lost masked thrown) es c = λ h. h
-  moves-later n (Death d) es c = λ h. h
-  moves-later n (Join p) es c = λ h. h
+  moves-later n _ es c = λ h. h
 
   next-coded : (T : Tree) (t : TaskId) (act : Act) (batch : List (List ℕ)) → AllowedAct T t act → ((c : ℕ) → c < T.next_task → CodedStart c) → ((d : TaskId) → started_by act ≡ Some d → CodedStart d.0) → (c : ℕ) → c < T.next_task + births_of (Step t act batch) → CodedStart c
   next-coded T t (Calling from to s r d x) batch a old new c l = one_more T d c l a.asks.3 old (new d refl)

@@ -1,7 +1,7 @@
 -- What the statement that asks the store gives to the call.
 use Rattle.std.proofs.Common.{◌≡◌, ℕ, zero, suc, ℤ, ◌+◌, ◌*◌, ◌^◌, ◌<◌, ◌≤◌, ◌==◌, max, Bool, true, false, cond, List, [], ◌∷◌, ◌++◌, reverse, length, Option, Some, None, Result, Ok, Err, slice_get, slice_set, refl, ap, ◌∙◌, sym, subst, arith}
 use Rattle.std.proofs.lemmas.Bool.{eqb-true}
-use Rattle.rx_rules.proofs.Common.{PlaceId, TaskId, Value, Number, Fault, Thrown, WrongPlace, Block, work, Stmt, SetTo, New, Get, Put, Forget, Print, Census, Throw, Async, AtAsync, At, Finish, If, Repeat, Try, Vars, Term, Empty, Run, Raise, Turns, Trying, Body, Held, items, at, Answer, Gives, Fine, Fails, answered, vars_after, answer_of, Does, Local, Makes, Gets, Puts, Forgets, Opens, Calls, Spawns, Waits, Releases, Prints, Counts, Done, raise, bound, value_of, ref_in, eval, target_of, is_zero, with_number, with_place, stmt_does, within, does, begins, after_it, receives, stmt_receives, Tree, State, opening_state, MayCell, after_cell, Tells, begun, journal_at, Given, in_all, Proper, death_number, Game, Player, RunsWithoutEntry, stays, local, stores, tree_in}
+use Rattle.rx_rules.proofs.Common.{PlaceId, TaskId, Value, Number, Fault, Thrown, WrongPlace, Block, work, Stmt, SetTo, New, Get, Put, Forget, Print, Census, Throw, Async, AtAsync, At, Finish, If, Repeat, Try, Vars, Term, Empty, Run, Raise, Turns, Trying, Body, Held, items, at, Answer, Gives, Fine, Fails, answered, vars_after, answer_of, Does, Makes, Gets, Puts, Forgets, Releases, raise, bound, value_of, ref_in, eval, target_of, is_zero, with_number, with_place, stmt_does, within, does, begins, after_it, receives, stmt_receives, Tree, State, opening_state, MayCell, after_cell, Tells, begun, journal_at, Given, in_all, Proper, death_number, Game, Player, RunsWithoutEntry, stays, local, stores, tree_in}
 use Rattle.rx_base.proofs.SameIds.{place-is}
 use Rattle.rx_base.proofs.Elements.{get-set}
 use Rattle.rx_rules.specs.declared.tasks.Task.{Task}
@@ -36,7 +36,6 @@ pub record IsCall (t : Term) (here : PlaceId) (op : CellOp) (d : Does) : Type 0 
   pub free : d ≡ Releases → ⊥
 
 pub is_call : (t : Term) (here : PlaceId) (op : CellOp) (d : Does) → next_of d ≡ CellStep op → BeginsStatement d (begins t) → CallSo here.0 d (receives t) → AsksSome d → Sinks t d → IsCall t here op d
-is_call t here op (Local left vars) e b c s k = absurd (let f : ⊥ = cc in f)
 is_call t here (Make n) (Makes name words) e b c s k = record { begins = b; receives = c; may = (let w : words ≡ n = cc in subst (λ (v : ℕ). 0 < v) w s); sinks = k; free = λ f. (let g : ⊥ = cc in g) }
 is_call t here (GetWord r i) (Makes name words) e b c s k = absurd (let f : ⊥ = cc in f)
 is_call t here (PutWord r i v) (Makes name words) e b c s k = absurd (let f : ⊥ = cc in f)
@@ -53,11 +52,4 @@ is_call t here (Make n) (Forgets target) e b c s k = absurd (let f : ⊥ = cc in
 is_call t here (GetWord r i) (Forgets target) e b c s k = absurd (let f : ⊥ = cc in f)
 is_call t here (PutWord r i v) (Forgets target) e b c s k = absurd (let f : ⊥ = cc in f)
 is_call t here (ForgetBlock r) (Forgets target) e b c s k = record { begins = b; receives = tt; may = (let w : target ≡ r = cc in ap (λ v. v.home) (sym w) ∙ place-is target.home here c); sinks = k; free = λ f. (let g : ⊥ = cc in g) }
-is_call t here op Opens e b c s k = absurd (let f : ⊥ = cc in f)
-is_call t here op (Calls place) e b c s k = absurd (let f : ⊥ = cc in f)
-is_call t here op (Spawns place) e b c s k = absurd (let f : ⊥ = cc in f)
-is_call t here op (Waits faults) e b c s k = absurd (let f : ⊥ = cc in f)
-is_call t here op Releases e b c s k = absurd (let f : ⊥ = cc in f)
-is_call t here op (Prints value) e b c s k = absurd (let f : ⊥ = cc in f)
-is_call t here op (Counts name) e b c s k = absurd (let f : ⊥ = cc in f)
-is_call t here op (Done faults) e b c s k = absurd (let f : ⊥ = cc in f)
+is_call t here op _ e b c s k = absurd (let f : ⊥ = cc in f)

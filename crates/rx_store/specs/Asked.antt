@@ -5,7 +5,7 @@ use Rattle.rx_base.specs.declared.values.Value.{Value}
 use Rattle.rx_base.specs.declared.values.Fault.{Fault}
 use Rattle.rx_rules.specs.declared.events.Cell.{Cell}
 use Rattle.rx_rules.specs.Store.{MayCell}
-use Rattle.rx_rules.specs.Terms.{Does, Local, Makes, Gets, Puts, Forgets, Opens, Calls, Spawns, Waits, Releases, Prints, Counts, Done}
+use Rattle.rx_rules.specs.Terms.{Does, Makes, Gets}
 use Rattle.rx_rules.specs.Terms.{answer_of}
 use Rattle.rx_rules.specs.Plays.{Tells}
 use Rattle.rx_store.specs.Kept.{StoreView, state_of}
@@ -25,19 +25,9 @@ MayAskStore here (Forget target) = target.home ≡ here
 
 -- the name that waits for the answer
 abbrev pub Receives : Does → Option ℕ → Type 0
-Receives (Local left vars) o = Unit {0}
 Receives (Makes name words) o = o ≡ Some name
 Receives (Gets name target index) o = o ≡ Some name
-Receives (Puts target index value) o = Unit {0}
-Receives (Forgets target) o = Unit {0}
-Receives Opens o = Unit {0}
-Receives (Calls place) o = Unit {0}
-Receives (Spawns place) o = Unit {0}
-Receives (Waits faults) o = Unit {0}
-Receives Releases o = Unit {0}
-Receives (Prints value) o = Unit {0}
-Receives (Counts name) o = Unit {0}
-Receives (Done faults) o = Unit {0}
+Receives _ o = Unit {0}
 
 -- a task that makes the call is told what the event tells
 abbrev pub CallIsTold : PlaceId → CellOp → Result (Option Value) Fault → Cell → Type 0

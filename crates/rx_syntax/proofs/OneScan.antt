@@ -44,16 +44,13 @@ abbrev IsNamed : List (List ℕ) → Token → Lexeme → Type 0
 IsNamed names t x = (n : ℕ) × (name : List ℕ) × (t ≡ Called n) × (slice_get names n ≡ Some name) × (x ≡ lexemes.Name (padded name))
 
 told-is : (names : List (List ℕ)) (t : Token) (x : Lexeme) → lexeme_of names t ≡ Some x → (told x ≡ Some t) ⊎ IsNamed names t x
-told-is names (Key k) x e = inl (ap told (sym (same_Some _ x e)))
 told-is names (Called n) x e = by (slice_get names n) refl e
   where
     by : (o : Option (List ℕ)) → slice_get names n ≡ o → option_map (λ name. lexemes.Name (padded name)) o ≡ Some x → (told x ≡ Some (Called n)) ⊎ IsNamed names (Called n) x
     by None f e = cc
     by (Some name) f e = inr (n, name, refl, f, sym (same_Some _ x e))
-told-is names (Number n) x e = inl (ap told (sym (same_Some _ x e)))
-told-is names (Oper o) x e = inl (ap told (sym (same_Some _ x e)))
-told-is names (Mark s) x e = inl (ap told (sym (same_Some _ x e)))
 told-is names Bad x e = cc
+told-is names _ x e = inl (ap told (sym (same_Some _ x e)))
 
 told-counts : (k j : ℕ) (x : Lexeme) (t : Token) → told x ≡ Some t → NamesUpTo k t j → j ≡ k
 told-counts k j (lexemes.Word w) t e c = subst (λ u. NamesUpTo k u j) (sym (same_Some _ t e)) c
@@ -107,12 +104,8 @@ IsBad n bytes t ts at starts =
     (t ≡ Bad) × (ts ≡ []) × (starts ≡ n ∷ []) × (skipped false bytes ≢ []) × (token_at (skipped false bytes) ≡ None) × (at + length (skipped false bytes) ≡ n)
 
 first : (names : List (List ℕ)) (n : ℕ) (bytes : List ℕ) (t : Token) (ts : List Token) (at : ℕ) (starts : List ℕ) → Scans names n bytes (t ∷ ts) (at ∷ starts) → IsFirst names n bytes t ts at starts ⊎ IsBad n bytes t ts at starts
-first names n bytes (Key x) ts at starts s = inl s
-first names n bytes (Called x) ts at starts s = inl s
-first names n bytes (Number x) ts at starts s = inl s
-first names n bytes (Oper x) ts at starts s = inl s
-first names n bytes (Mark x) ts at starts s = inl s
 first names n bytes Bad ts at starts s = inr (refl, s.0, s.1, s.2, s.3, s.4)
+first names n bytes _ ts at starts s = inl s
 
 no-token : (bytes : List ℕ) (x : Lexeme × List ℕ) → bytes ≡ [] → token_at bytes ≡ Some x → ⊥
 no-token bytes x h e = let n : token_at [] ≡ Some x = subst (λ b. token_at b ≡ Some x) h e in cc
@@ -127,13 +120,9 @@ some-left names n bytes t ts (at ∷ starts) s e = by (first names n bytes t ts 
 
 -- how many names there are after the first token
 order-first : (k last : ℕ) (t : Token) (ts : List Token) → NamesInOrder k (t ∷ ts) last → (j : ℕ) × NamesUpTo k t j × NamesInOrder j ts last
-order-first k last (Key x) ts o = (k, refl, o)
 order-first k last (Called x) ts (inl o) = (k, inl (o.0, refl), o.1)
 order-first k last (Called x) ts (inr o) = (k + 1, inr (o.0, refl), o.1)
-order-first k last (Number x) ts o = (k, refl, o)
-order-first k last (Oper x) ts o = (k, refl, o)
-order-first k last (Mark x) ts o = (k, refl, o)
-order-first k last Bad ts o = (k, refl, o)
+order-first k last _ ts o = (k, refl, o)
 
 bad-order : (k last : ℕ) (t : Token) (ts : List Token) → t ≡ Bad → ts ≡ [] → NamesInOrder k (t ∷ ts) last → k ≡ last
 bad-order k last t ts e f o =

@@ -62,13 +62,11 @@ run-shows (b ∷ bs) rest some all = not-blank b (bs ++ rest) (and-first (is_wor
 
 -- a token that bytes can spell, whose name is known
 abbrev pub Plain : List (List ℕ) → Token → Type 0
-Plain names (Key k) = Unit {0}
 Plain names (Called n) = (name : List ℕ) × (slice_get names n ≡ Some name) × IsName name
 Plain names (Number (pos n)) = n ≤ most
 Plain names (Number _) = ⊥
-Plain names (Oper o) = Unit {0}
-Plain names (Mark s) = Unit {0}
 Plain names Bad = ⊥
+Plain names _ = Unit {0}
 
 abbrev pub AllPlain : List (List ℕ) → List Token → Type 0
 AllPlain names [] = Unit {0}

@@ -115,14 +115,11 @@ name-token bytes p after x f e = name-of (prefix_len is_word_byte bytes) bytes p
 
 -- a token is spelled so where names are added
 pub lexeme-grows : (names more : List (List ℕ)) (t : Token) (x : Lexeme) → lexeme_of names t ≡ Some x → lexeme_of (names ++ more) t ≡ Some x
-lexeme-grows names more (Key k) x e = e
 lexeme-grows names more (Called m) x e =
     let there = mapped (λ name. lexemes.Name (padded name)) (slice_get names m) x e in
     ap (option_map (λ name. lexemes.Name (padded name))) (get-more names more m there.0 there.1) ∙ ap (λ y. Some y) there.2
-lexeme-grows names more (Number m) x e = e
-lexeme-grows names more (Oper o) x e = e
-lexeme-grows names more (Mark s) x e = e
 lexeme-grows names more Bad x e = cc
+lexeme-grows names more _ x e = e
 
 -- a name with its number
 pub numbered-name : (old new : List (List ℕ)) (n : ℕ) (word p : List ℕ) (x : Lexeme) → x ≡ lexemes.Name p → p ≡ padded word → slice_get new n ≡ Some word → Numbers old n new → IsNumbered old x (Called n) new
@@ -138,12 +135,8 @@ numbered-name old new n word p x e f at by-number = by by-number
 -- one token in front
 pub scans-token : (names : List (List ℕ)) (n : ℕ) (bytes : List ℕ) (t : Token) (ts : List Token) (at : ℕ) (starts : List ℕ) (x : Lexeme) (after : List ℕ)
     → lexeme_of names t ≡ Some x → token_at (skipped false bytes) ≡ Some (x, after) → at + length (skipped false bytes) ≡ n → Scans names n after ts starts → Scans names n bytes (t ∷ ts) (at ∷ starts)
-scans-token names n bytes (Key k) ts at starts x after l e a s = (x, after, l, e, a, s)
-scans-token names n bytes (Called k) ts at starts x after l e a s = (x, after, l, e, a, s)
-scans-token names n bytes (Number k) ts at starts x after l e a s = (x, after, l, e, a, s)
-scans-token names n bytes (Oper k) ts at starts x after l e a s = (x, after, l, e, a, s)
-scans-token names n bytes (Mark k) ts at starts x after l e a s = (x, after, l, e, a, s)
 scans-token names n bytes Bad ts at starts x after l e a s = cc
+scans-token names n bytes _ ts at starts x after l e a s = (x, after, l, e, a, s)
 
 -- whether a list has a first element
 pub is-empty : {A : Type 0} (xs : List A) → true ≡ (length xs == 0) → xs ≡ []
@@ -186,13 +179,9 @@ goes-more old new n bytes ts starts rest t at x after g i e a = record {
 
 -- the numbers of names with one token more
 order-one : (k m : ℕ) (t : Token) → NamesUpTo k t m → NamesInOrder k (t ∷ []) m
-order-one k m (Key x) c = sym c
 order-one k m (Called x) (inl c) = inl (c.0, sym c.1)
 order-one k m (Called x) (inr c) = inr (c.0, sym c.1)
-order-one k m (Number x) c = sym c
-order-one k m (Oper x) c = sym c
-order-one k m (Mark x) c = sym c
-order-one k m Bad c = sym c
+order-one k m _ c = sym c
 
 pub order-more : (k m l : ℕ) (ts : List Token) (t : Token) → NamesInOrder k ts m → NamesUpTo m t l → NamesInOrder k (ts ++ t ∷ []) l
 order-more k m l [] t o c = order-one k l t (subst (λ n. NamesUpTo n t l) (sym o) c)
@@ -206,13 +195,9 @@ order-more k m l (Bad ∷ ts) t o c = order-more k m l ts t o c
 
 -- a token is one name more at most
 pub few-more : (m l : ℕ) (t : Token) → NamesUpTo m t l → l ≤ m + 1
-few-more m l (Key x) c = omega (arith, c)
 few-more m l (Called x) (inl c) = omega (arith, c.1)
 few-more m l (Called x) (inr c) = omega (arith, c.1)
-few-more m l (Number x) c = omega (arith, c)
-few-more m l (Oper x) c = omega (arith, c)
-few-more m l (Mark x) c = omega (arith, c)
-few-more m l Bad c = omega (arith, c)
+few-more m l _ c = omega (arith, c)
 
 -- blanks and comments are taken from the front
 skip-shorter : (c : Bool) (bs : List ℕ) → length (skipped c bs) ≤ length bs

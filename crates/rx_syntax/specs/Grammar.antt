@@ -72,14 +72,7 @@ may_turn n = nat_lt n 1000001
 -- the numbers after `new` and `repeat` are in their ranges
 abbrev mutual
   pub InRange : Stmt → Type 0
-  InRange (SetTo n e) = Unit {0}
   InRange (New n k) = may_hold k ≡ true
-  InRange (Get n t e) = Unit {0}
-  InRange (Put t i e) = Unit {0}
-  InRange (Forget t) = Unit {0}
-  InRange (Census n) = Unit {0}
-  InRange (Print e) = Unit {0}
-  InRange (Throw e) = Unit {0}
   InRange (Async b) = AllInRange b
   InRange (AtAsync e b) = AllInRange b
   InRange (At e b) = AllInRange b
@@ -87,6 +80,7 @@ abbrev mutual
   InRange (If e a b) = AllInRange a × AllInRange b
   InRange (Repeat n b) = (may_turn n ≡ true) × AllInRange b
   InRange (Try a d b) = AllInRange a × AllInRange b
+  InRange _ = Unit {0}
 
   pub AllInRange : Block → Type 0
   AllInRange Nothing = Unit {0}

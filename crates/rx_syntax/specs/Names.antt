@@ -2,7 +2,7 @@
 use Rattle.std.specs.Prelude.{◌≡◌, ℕ, ◌+◌, ◌<◌, List, [], ◌∷◌, ◌++◌, map, length, Some, slice_get, ◌⊎◌}
 use Rattle.rx_syntax.specs.declared.names.NameTable.{NameTable}
 use Rattle.rx_syntax.specs.declared.token.Token.{Token}
-use Rattle.rx_syntax.specs.declared.token.Token.TheVariants.{Key, Called, Number, Oper, Mark, Bad}
+use Rattle.rx_syntax.specs.declared.token.Token.TheVariants.{Called}
 use Rattle.rx_syntax.specs.declared.token.Lexeme.{Lexeme}
 use Rattle.rx_syntax.specs.Lexical.{padded}
 use Rattle.rx_syntax.specs.Tokens.{IsName, AreDistinct, lexeme_of}
@@ -21,11 +21,7 @@ Numbers old n new = ((n < length old) × (new ≡ old)) ⊎ ((n ≡ length old) 
 -- how many names stand up to a token, where this many stand before it
 abbrev pub NamesUpTo : ℕ → Token → ℕ → Type 0
 NamesUpTo old (Called n) new = ((n < old) × (new ≡ old)) ⊎ ((n ≡ old) × (new ≡ old + 1))
-NamesUpTo old (Key k) new = new ≡ old
-NamesUpTo old (Number n) new = new ≡ old
-NamesUpTo old (Oper o) new = new ≡ old
-NamesUpTo old (Mark s) new = new ≡ old
-NamesUpTo old Bad new = new ≡ old
+NamesUpTo old _ new = new ≡ old
 
 -- the token spells so with the new names, which begin with the old
 pub record IsNumbered (old : List (List ℕ)) (lexeme : Lexeme) (t : Token) (new : List (List ℕ)) : Type 0 where

@@ -4,13 +4,10 @@ use Rattle.rx_rules.specs.Terms.{Term, Empty, Run, Raise, Turns, Trying, Body, H
 
 -- the task waits at a scope
 abbrev pub is_held : Term → Bool
-is_held Empty = false
-is_held (Run stmt x rest) = false
-is_held (Raise faults) = false
-is_held (Turns body x k times rest) = false
 is_held (Trying inside dead_only handler x rest) = is_held inside
 is_held (Body inside rest) = is_held inside
 is_held (Held rest) = true
+is_held _ = false
 
 -- nowhere in the term does a task wait
 abbrev pub Unheld : Term → Type 0

@@ -24,7 +24,6 @@ actor_below T t act h a = below T t a.task h a.stands
 
 -- the birth that an entry tells
 pub newborn : (n : ℕ) (t : TaskId) (act : Act) (batch : List (List ℕ)) (d : TaskId) → started_by act ≡ Some d → (b : Birth) × (birth_in n d.0 (Step t act batch) ≡ Some b) × (b.low ≡ suc n)
-newborn n t (Open s r x) batch d e = absurd (let f : ⊥ = cc in f)
 newborn n t (Calls from to s r c x) batch d e =
     let same : c ≡ d = cc in
     subst (λ (z : TaskId). (b : Birth) × (birth_in n z.0 (Step t (Calls from to s r c x) batch) ≡ Some b) × (b.low ≡ suc n)) same
@@ -33,12 +32,7 @@ newborn n t (Spawn c s from to x) batch d e =
     let same : c ≡ d = cc in
     subst (λ (z : TaskId). (b : Birth) × (birth_in n z.0 (Step t (Spawn c s from to x) batch) ≡ Some b) × (b.low ≡ suc n)) same
     (record { from = from; to = to; low = suc n }, rw (eq-eqb c.0 c.0 refl), refl)
-newborn n t (Arrive p) batch d e = absurd (let f : ⊥ = cc in f)
-newborn n t (Wait s thrown) batch d e = absurd (let f : ⊥ = cc in f)
-newborn n t (Release s lost masked thrown) batch d e = absurd (let f : ⊥ = cc in f)
-newborn n t (End thrown) batch d e = absurd (let f : ⊥ = cc in f)
-newborn n t (Print value x) batch d e = absurd (let f : ⊥ = cc in f)
-newborn n t (Census count x) batch d e = absurd (let f : ⊥ = cc in f)
+newborn n t _ batch d e = absurd (let f : ⊥ = cc in f)
 
 -- an act starts no task, or the next
 abbrev pub StartsNext : Tree → Act → ℕ → Type 0

@@ -35,9 +35,7 @@ allowed_last n T (x ∷ es) e a = allowed_last (suc n) (made n T x) es e a.1
 
 alone : (n : ℕ) (ks : List Event) (e : Entry) → PlanKept n ks (e ∷ []) → InTime n ks e
 alone n ks (Step t act batch) h = h.0
-alone n ks (Root lost masked thrown) h = h.0
-alone n ks (Death d) h = h.0
-alone n ks (Join d) h = h.0
+alone n ks _ h = h.0
 
 plan_last : (n : ℕ) (ks : List Event) (es : List Entry) (e : Entry) → PlanKept n ks (es ++ e ∷ []) → InTime (n + length es) (plan_left ks es) e
 plan_last n ks [] e h = let z : n ≡ n + 0 = omega arith in subst (λ (k : ℕ). InTime k ks e) z (alone n ks e h)
@@ -98,15 +96,11 @@ part_begins code U es js = (none code U es js, λ m n le h. fewer code U es js m
 
 pub no_birth : (n u : ℕ) (e : Entry) → IsQuiet e → birth_in n u e ≡ None
 no_birth n u (Step t act batch) q = absurd q
-no_birth n u (Root lost masked thrown) q = refl
-no_birth n u (Death d) q = refl
-no_birth n u (Join d) q = refl
+no_birth n u _ q = refl
 
 no_births : (e : Entry) → IsQuiet e → births_of e ≡ 0
 no_births (Step t act batch) q = absurd q
-no_births (Root lost masked thrown) q = refl
-no_births (Death d) q = refl
-no_births (Join d) q = refl
+no_births _ q = refl
 
 pub no_moves : (es : List Entry) (e : Entry) → IsQuiet e → (u : ℕ) → moves_from 0 (es ++ e ∷ []) u ≡ moves_from 0 es u
 no_moves es (Step t act batch) q u = absurd q

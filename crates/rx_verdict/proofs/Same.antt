@@ -44,13 +44,10 @@ is_same a b e h = absurd (true≢false (sym h))
 
 itself : (a : Cell) → same_answer a a ≡ true
 itself (Make n s g) = both_true (s == s) (g == g) (eq-eqb s s refl) (eq-eqb g g refl)
-itself (MakeFull n) = refl
 itself (Get r i v) = int_same v v refl
 itself (GetRefused r i s) = bool_same s
-itself (Put r i v) = refl
 itself (PutRefused r i v s) = bool_same s
-itself (Forget r) = refl
-itself (ForgetStale r) = refl
+itself _ = refl
 
 pub answers-same : (a b : Cell) → ask_of a ≡ ask_of b → IsTrue (same_answer a b) ↔ (a ≡ b)
 answers-same a b e = (λ h. is_same a b e h, λ h. ap (same_answer a) (sym h) ∙ itself a)

@@ -9,7 +9,7 @@ use Rattle.rx_rules.specs.declared.entries.Act.{Act}
 use Rattle.rx_rules.specs.declared.entries.Act.TheVariants.{Open, At as Calls, Spawn, Arrive, Wait, Release, End, Print, Census}
 use Rattle.rx_rules.specs.declared.entries.Entry.{Entry}
 use Rattle.rx_rules.specs.declared.events.Cell.{Cell}
-use Rattle.rx_rules.specs.declared.events.Cell.TheVariants.{Make, MakeFull, Get, Put, Forget, GetRefused, PutRefused, ForgetStale}
+use Rattle.rx_rules.specs.declared.events.Cell.TheVariants.{Make, MakeFull}
 use Rattle.rx_rules.specs.declared.events.PlaceEvent.{PlaceEvent}
 use Rattle.rx_rules.specs.declared.events.PlaceEvent.TheVariants.{Done}
 use Rattle.rx_rules.specs.Terms as terms
@@ -28,14 +28,9 @@ use Rattle.rx_runs.proofs.SomeWords.{Keeps, keeps, some-items, some-answered, so
 told-some : (d : Does) (here : PlaceId) (cell : Cell) (a : Answer) → Keeps d → Tells d here cell a → CellAsksSome cell
 told-some (terms.Makes name words) here (Make n s g) a k t = subst (λ z. 0 < z) (sym t.0) k
 told-some (terms.Makes name words) here (MakeFull n) a k t = subst (λ z. 0 < z) (sym t.0) k
-told-some d here (Get r i v) a k t = tt
-told-some d here (Put r i v) a k t = tt
-told-some d here (Forget r) a k t = tt
-told-some d here (GetRefused r i s) a k t = tt
-told-some d here (PutRefused r i v s) a k t = tt
-told-some d here (ForgetStale r) a k t = tt
 told-some d here (Make n s g) a k t = absurd t
 told-some d here (MakeFull n) a k t = absurd t
+told-some d here _ a k t = tt
 
 -- what a task of such a term starts is such a term
 starts_some : (starts : Starts) (t : Term) (vars : Vars) (act : Act) (c : ℕ) (s : Term × Vars) → StartsTask act c → StartsSo starts t vars act → slice_get starts c ≡ Some s → TermMakesSome t → TermMakesSome s.0

@@ -1,6 +1,6 @@
 -- The pass over the entries, one task at a time.
 use Rattle.std.proofs.Common.{◌≡◌, ℕ, List, [], ◌∷◌, ◌++◌, refl, ap, sym, subst, ◌∙◌, ⊎_elim}
-use Rattle.rx_rules.proofs.Common.{PlaceId, Fault, Term, Vars, Answer, Does, Local, Makes as Creates, Gets, Puts, Forgets, Opens, Calls as Asks, Spawns, Waits, Releases, Prints, Counts, Done, does, Player, Cells, Moves, Starts, Tells, StartsSo}
+use Rattle.rx_rules.proofs.Common.{PlaceId, Fault, Term, Vars, Answer, Does, Local, Makes as Creates, Gets, Puts, Forgets, Done, does, Player, Cells, Moves, Starts, Tells, StartsSo}
 use Rattle.rx_rules.specs.declared.entries.Act.{Act}
 use Rattle.rx_rules.specs.declared.entries.Act.TheVariants.{End}
 use Rattle.rx_rules.specs.declared.events.Cell.{Cell}
@@ -57,14 +57,7 @@ told_asks_no_ledger (Gets name target index) here c a h k = k
 told_asks_no_ledger (Puts target index value) here c a h k = k
 told_asks_no_ledger (Forgets target) here c a h k = k
 told_asks_no_ledger (Local left vars) here c a h k = k
-told_asks_no_ledger Opens here c a h k = h
-told_asks_no_ledger (Asks place) here c a h k = h
-told_asks_no_ledger (Spawns place) here c a h k = h
-told_asks_no_ledger (Waits faults) here c a h k = h
-told_asks_no_ledger Releases here c a h k = h
-told_asks_no_ledger (Prints value) here c a h k = h
-told_asks_no_ledger (Counts name) here c a h k = h
-told_asks_no_ledger (Done faults) here c a h k = h
+told_asks_no_ledger _ here c a h k = h
 
 pub fits_asks_no_store : (d : Does) (here : PlaceId) (t : Term) (act : Act) → Fits here t d act → AsksStore d → ⊥
 fits_asks_no_store (Creates name words) here t act h k = h
@@ -72,29 +65,12 @@ fits_asks_no_store (Gets name target index) here t act h k = h
 fits_asks_no_store (Puts target index value) here t act h k = h
 fits_asks_no_store (Forgets target) here t act h k = h
 fits_asks_no_store (Local left vars) here t act h k = h
-fits_asks_no_store Opens here t act h k = k
-fits_asks_no_store (Asks place) here t act h k = k
-fits_asks_no_store (Spawns place) here t act h k = k
-fits_asks_no_store (Waits faults) here t act h k = k
-fits_asks_no_store Releases here t act h k = k
-fits_asks_no_store (Prints value) here t act h k = k
-fits_asks_no_store (Counts name) here t act h k = k
 fits_asks_no_store (Done faults) here t act h k = h
+fits_asks_no_store _ here t act h k = k
 
 fits_no_end : (d : Does) (here : PlaceId) (t : Term) (faults : List Fault) → Fits here t d (End faults) → ⊥
 fits_no_end (Creates name words) here t faults h = h
-fits_no_end (Gets name target index) here t faults h = h
-fits_no_end (Puts target index value) here t faults h = h
-fits_no_end (Forgets target) here t faults h = h
-fits_no_end (Local left vars) here t faults h = h
-fits_no_end Opens here t faults h = h
-fits_no_end (Asks place) here t faults h = h
-fits_no_end (Spawns place) here t faults h = h
-fits_no_end (Waits raised) here t faults h = h
-fits_no_end Releases here t faults h = h
-fits_no_end (Prints value) here t faults h = h
-fits_no_end (Counts name) here t faults h = h
-fits_no_end (Done raised) here t faults h = h
+fits_no_end _ here t faults h = h
 
 module _ (starts : Starts) (here : PlaceId) where
   at_request_only : {vars : Vars} {t : Term} {batch : List (List ℕ)} {cells rest : Cells} {all : Moves} (m : ℕ × Act × List (List ℕ)) → all ≡ m ∷ [] → AsksLedger (does vars here.0 t) → Makes starts here vars t batch cells all rest → (m.2 ≡ batch) × Fits here t (does vars here.0 t) m.1 × StartsSo starts t vars m.1

@@ -9,7 +9,7 @@ use Rattle.rx_base.proofs.Elements.{get-within}
 use Rattle.rx_rules.specs.declared.entries.Act.{Act}
 use Rattle.rx_rules.specs.declared.entries.Act.TheVariants.{Arrive, End}
 use Rattle.rx_rules.specs.declared.entries.Entry.{Entry}
-use Rattle.rx_rules.specs.declared.entries.Entry.TheVariants.{Step, Root, Death, Join}
+use Rattle.rx_rules.specs.declared.entries.Entry.TheVariants.{Step}
 use Rattle.rx_rules.specs.declared.tasks.Where.TheVariants.{At}
 use Rattle.rx_rules.specs.declared.events.PlaceEvent.{PlaceEvent}
 use Rattle.rx_tree_laws.specs.Histories.{FoldReached}
@@ -56,9 +56,7 @@ so_many U es i e f = let l : i < length es = slice_get_within es i e f.here in l
 -- an entry of no task opens no scope
 none_opened : (e : Entry) → IsQuiet e → (ps : List ScopeId) → ps ≡ ps ++ parents_in (e ∷ [])
 none_opened (Step t act batch) q ps = absurd q
-none_opened (Root lost masked thrown) q ps = sym (append-nil ps)
-none_opened (Death d) q ps = sym (append-nil ps)
-none_opened (Join d) q ps = sym (append-nil ps)
+none_opened _ q ps = sym (append-nil ps)
 
 -- after an entry of no task
 pub quiet_after : (shape : Shape) (code : Block) (U : Given) (es : List Entry) (js : List (List PlaceEvent)) (i : ℕ) (ps : Players) (e : Entry) → SeatsStay → FoldReached → IsQuiet e → MayFollow U es i e → PlayersAre shape code U es js i ps → PlayersAre shape code U es js (suc i) ps

@@ -4,7 +4,7 @@ use Rattle.std.specs.List.{filter_map}
 use Rattle.std.proofs.lemmas.Bool.{true≢false, and_parts, eqb-true, eq-eqb}
 use Rattle.std.proofs.lemmas.Bool.Decides.{Decides-int_eq}
 use Rattle.std.specs.Cmp.Derive.{both_true}
-use Rattle.rx_rules.proofs.Common.{PlaceId, TaskId, ScopeId, PlaceSet, Fault, Player, Cells, brought, cell_of, journal_at, raised_by, vars_told, Vars, Term, Does, Local, Makes, Gets, Puts, Forgets, Opens, Calls, Spawns, Waits, Releases, Prints, Counts, Done, Empty, does, begins, granted, replaced}
+use Rattle.rx_rules.proofs.Common.{PlaceId, TaskId, ScopeId, PlaceSet, Fault, Player, Cells, brought, cell_of, journal_at, raised_by, vars_told, Vars, Term, Does, Local, Opens, Calls, Spawns, Waits, Releases, Prints, Counts, Done, Empty, does, begins, granted, replaced}
 use Rattle.rx_rules.specs.declared.entries.Act.{Act}
 use Rattle.rx_rules.specs.declared.entries.Act.TheVariants.{Open, At as Called, Spawn, Wait, Release, Print, Census}
 use Rattle.rx_rules.specs.declared.events.PlaceEvent.{PlaceEvent}
@@ -84,12 +84,7 @@ fits_cut here t (Waits faults) act w e = let same : want.Wait ≡ w = cc in subs
 fits_cut here t Releases act w e = let same : want.Release ≡ w = cc in subst (λ (v : Want). Cut v here t Releases act) same (release_cut here t act)
 fits_cut here t (Prints value) act w e = let same : want.Print value ≡ w = cc in subst (λ (v : Want). Cut v here t (Prints value) act) same (print_cut here t value act)
 fits_cut here t (Counts name) act w e = let same : want.Census ≡ w = cc in subst (λ (v : Want). Cut v here t (Counts name) act) same (census_cut here t name act)
-fits_cut here t (Local left vars) act w e = absurd (let f : ⊥ = cc in f)
-fits_cut here t (Makes name words) act w e = absurd (let f : ⊥ = cc in f)
-fits_cut here t (Gets name target index) act w e = absurd (let f : ⊥ = cc in f)
-fits_cut here t (Puts target index value) act w e = absurd (let f : ⊥ = cc in f)
-fits_cut here t (Forgets target) act w e = absurd (let f : ⊥ = cc in f)
-fits_cut here t (Done faults) act w e = absurd (let f : ⊥ = cc in f)
+fits_cut here t _ act w e = absurd (let f : ⊥ = cc in f)
 
 -- Which request is asked.
 
@@ -108,15 +103,6 @@ asks_wait d h = absurd (let f : ⊥ = cc in f)
 
 -- an act that is neither a wait nor a release is asked by the statement that begins
 pub begins_it : (here : PlaceId) (d : Does) (act : Act) (b : Option (List ℕ)) → wanted want.Wait here act ≡ false → wanted want.Release here act ≡ false → ActIsAsked here d act → BeginsStatement d b → (x : List ℕ) × (b ≡ Some x)
-begins_it here (Makes name words) act b e f a h = h
-begins_it here (Gets name target index) act b e f a h = h
-begins_it here (Puts target index value) act b e f a h = h
-begins_it here (Forgets target) act b e f a h = h
-begins_it here Opens act b e f a h = h
-begins_it here (Calls place) act b e f a h = h
-begins_it here (Spawns place) act b e f a h = h
-begins_it here (Prints value) act b e f a h = h
-begins_it here (Counts name) act b e f a h = h
 begins_it here (Local left vars) act b e f a h = absurd (let g = a.1 in let n : ⊥ = cc in n)
 begins_it here (Done faults) act b e f a h = absurd (let g = a.1 in let n : ⊥ = cc in n)
 begins_it here (Waits faults) act b e f a h =
@@ -125,6 +111,7 @@ begins_it here (Waits faults) act b e f a h =
 begins_it here Releases act b e f a h =
     let g = a.1 in let same : want.Release ≡ a.0 = cc in
     absurd (true≢false (sym (ap (λ (w : Want). wanted w here act) same ∙ a.2) ∙ f))
+begins_it here _ act b e f a h = h
 
 -- Controls that have gone on.
 

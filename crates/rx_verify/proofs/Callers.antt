@@ -4,9 +4,9 @@ use Rattle.std.specs.Global.{Box}
 use Rattle.rx_rules.proofs.Common.{PlaceId, ScopeId, TaskId, Block, Allowed, AllowedAct, made, made_act, tree_of, Player, Starts, Cells, Moves, Tells, brought, Reached, Given, Folds, Term, Vars, Does, Local, Releases, Empty, granted, items, Tree, the_root}
 use Rattle.rx_base.proofs.SameIds.{task-is}
 use Rattle.rx_rules.specs.declared.entries.Act.{Act}
-use Rattle.rx_rules.specs.declared.entries.Act.TheVariants.{Open, At as Called, Spawn, Arrive, Wait, Release, End, Print, Census}
+use Rattle.rx_rules.specs.declared.entries.Act.TheVariants.{Open, Arrive}
 use Rattle.rx_rules.specs.declared.entries.Entry.{Entry}
-use Rattle.rx_rules.specs.declared.entries.Entry.TheVariants.{Step, Root, Death, Join}
+use Rattle.rx_rules.specs.declared.entries.Entry.TheVariants.{Step}
 use Rattle.rx_rules.specs.declared.events.PlaceEvent.{PlaceEvent}
 use Rattle.rx_rules.specs.declared.tasks.Kind.{Kind}
 use Rattle.rx_rules.specs.declared.tasks.Where.TheVariants.{At, Travel}
@@ -125,22 +125,13 @@ module _ (U : Given) (es : List Entry) (e : Entry) where
 -- of none
 pub not_by : (e : Entry) → IsQuiet e → (u : TaskId) → NotBy u e
 not_by (Step t act batch) q u = absurd q
-not_by (Root lost masked thrown) q u = tt
-not_by (Death d) q u = tt
-not_by (Join p) q u = tt
+not_by _ q u = tt
 
 -- An act of a task.
 
 pub same_task : (parents : List ScopeId) (act : Act) (who : Caller) → (who_after parents act who).task ≡ who.task
 same_task ps (Open s r path) w = refl
-same_task ps (Called from to s r d path) w = refl
-same_task ps (Spawn d s from to path) w = refl
-same_task ps (Arrive p) w = refl
-same_task ps (Wait s thrown) w = refl
-same_task ps (Release s lost masked thrown) w = refl
-same_task ps (End thrown) w = refl
-same_task ps (Print value path) w = refl
-same_task ps (Census places path) w = refl
+same_task ps _ w = refl
 
 module _ (U : Given) (es : List Entry) (folds : Folds U es) (task : TaskId) where
   abbrev tree : Tree

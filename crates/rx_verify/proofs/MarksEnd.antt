@@ -4,7 +4,7 @@ use Rattle.std.specs.Global.{Box}
 use Rattle.std.proofs.lemmas.Bool.{cases_eq, true≢false}
 use Rattle.std.proofs.lemmas.List.{take_all}
 use Rattle.std.proofs.lemmas.Option.{slice_get_within}
-use Rattle.rx_rules.proofs.Common.{PlaceId, TaskId, Block, Player, Cells, moves_from, journal_at, Given, Term, Vars, Does, Local, Makes, Gets, Puts, Forgets, Opens, Calls, Spawns, Waits, Releases, Prints, Counts, Done}
+use Rattle.rx_rules.proofs.Common.{PlaceId, TaskId, Block, Player, Cells, moves_from, journal_at, Given, Term, Vars, Does, Local, Makes, Gets, Puts, Forgets, Done}
 use Rattle.rx_base.proofs.Elements.{get-within}
 use Rattle.rx_rules.specs.declared.entries.Entry.{Entry}
 use Rattle.rx_rules.specs.declared.events.Cell.{Cell}
@@ -44,29 +44,15 @@ asks_ledger (Makes name words) asked e = absurd (let f : ⊥ = cc in f)
 asks_ledger (Gets name target index) asked e = absurd (let f : ⊥ = cc in f)
 asks_ledger (Puts target index value) asked e = absurd (let f : ⊥ = cc in f)
 asks_ledger (Forgets target) asked e = absurd (let f : ⊥ = cc in f)
-asks_ledger Opens asked e = tt
-asks_ledger (Calls place) asked e = tt
-asks_ledger (Spawns place) asked e = tt
-asks_ledger (Waits faults) asked e = tt
-asks_ledger Releases asked e = tt
-asks_ledger (Prints value) asked e = tt
-asks_ledger (Counts name) asked e = tt
 asks_ledger (Done faults) asked e = absurd (let f : ⊥ = cc in f)
+asks_ledger _ asked e = tt
 
 pub asks_store : (d : Does) (op : CellOp) → next_of d ≡ CellStep op → AsksStore d
-asks_store (Local left vars) op e = absurd (let f : ⊥ = cc in f)
 asks_store (Makes name words) op e = tt
 asks_store (Gets name target index) op e = tt
 asks_store (Puts target index value) op e = tt
 asks_store (Forgets target) op e = tt
-asks_store Opens op e = absurd (let f : ⊥ = cc in f)
-asks_store (Calls place) op e = absurd (let f : ⊥ = cc in f)
-asks_store (Spawns place) op e = absurd (let f : ⊥ = cc in f)
-asks_store (Waits faults) op e = absurd (let f : ⊥ = cc in f)
-asks_store Releases op e = absurd (let f : ⊥ = cc in f)
-asks_store (Prints value) op e = absurd (let f : ⊥ = cc in f)
-asks_store (Counts name) op e = absurd (let f : ⊥ = cc in f)
-asks_store (Done faults) op e = absurd (let f : ⊥ = cc in f)
+asks_store _ op e = absurd (let f : ⊥ = cc in f)
 
 -- with no entry to come the task goes on no more
 stuck_at : (stop : Stop) (seat : Seat) (es : List Entry) (i t : ℕ) (y : Player) (rest : Cells) → seat.home ≡ home_of (take i es) t → moves_from i (drop i es) t ≡ [] → Stops stop seat y rest → IsStuck es i t y rest

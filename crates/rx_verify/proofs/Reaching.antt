@@ -3,7 +3,7 @@ use Rattle.std.proofs.Common.{◌≡◌, ℕ, suc, ◌+◌, ◌<◌, ◌^◌, Bo
 use Rattle.std.proofs.lemmas.Bool.{true≢false}
 use Rattle.std.proofs.lemmas.List.{length-take-le}
 use Rattle.std.proofs.lemmas.Option.{slice_get_within}
-use Rattle.rx_rules.proofs.Common.{PlaceId, TaskId, Fault, Block, tree_of, Given, Does, Local, Makes as Creates, Gets, Puts, Forgets, Opens, Calls, Spawns, Waits, Releases, Prints, Counts, Done, Tree}
+use Rattle.rx_rules.proofs.Common.{PlaceId, TaskId, Fault, Block, tree_of, Given, Does, Opens, Calls, Spawns, Waits, Releases, Prints, Counts, Tree}
 use Rattle.rx_base.proofs.SameIds.{task-is}
 use Rattle.rx_rules.specs.declared.entries.Act.{Act}
 use Rattle.rx_rules.specs.declared.entries.Act.TheVariants.{Open, At as Called, Spawn, Arrive, Wait, Release, End, Print, Census}
@@ -83,12 +83,7 @@ module _ (T : Tree) (who : Caller) (here : PlaceId) where
   of_want Releases act w is e m = let same : w ≡ want.Release = cc in of_release act (subst (λ (v : Want). wanted v here act ≡ true) same e) m
   of_want (Prints value) act w is e m = let same : w ≡ want.Print value = cc in of_print value act (subst (λ (v : Want). wanted v here act ≡ true) same e) m
   of_want (Counts name) act w is e m = let same : w ≡ want.Census = cc in of_census name act (subst (λ (v : Want). wanted v here act ≡ true) same e) m
-  of_want (Local left vars) act w is e m = absurd (let g : ⊥ = cc in g)
-  of_want (Creates name words) act w is e m = absurd (let g : ⊥ = cc in g)
-  of_want (Gets name target index) act w is e m = absurd (let g : ⊥ = cc in g)
-  of_want (Puts target index value) act w is e m = absurd (let g : ⊥ = cc in g)
-  of_want (Forgets target) act w is e m = absurd (let g : ⊥ = cc in g)
-  of_want (Done faults) act w is e m = absurd (let g : ⊥ = cc in g)
+  of_want _ act w is e m = absurd (let g : ⊥ = cc in g)
 
 -- What is made where a task has stopped.
 

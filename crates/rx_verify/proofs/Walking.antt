@@ -3,7 +3,7 @@ use Rattle.std.proofs.Common.{◌≡◌, ℕ, zero, suc, ◌+◌, ◌<◌, ◌�
 use Rattle.std.specs.List.{filter_map}
 use Rattle.std.proofs.lemmas.Option.{slice_get_within}
 use Rattle.std.proofs.lemmas.Bool.{true≢false}
-use Rattle.rx_rules.proofs.Common.{PlaceId, Value, Fault, TaskId, Term, Vars, Does, Local, Makes as Creates, Gets as Reading, Puts as Writing, Forgets as Freeing, Opens, Calls as Asks, Spawns, Waits, Releases, Prints, Counts, Done, does, begins, receives, answered, answer_of, vars_after, Answer, Cells, begun, cell_of, journal_at, Player}
+use Rattle.rx_rules.proofs.Common.{PlaceId, Value, Fault, TaskId, Term, Vars, Does, Local, Makes as Creates, Gets as Reading, Puts as Writing, Forgets as Freeing, does, begins, receives, answered, answer_of, vars_after, Answer, Cells, begun, cell_of, journal_at, Player}
 use Rattle.rx_rules.specs.declared.events.Cell.{Cell}
 use Rattle.rx_base.proofs.SameIds.{task-is}
 use Rattle.rx_rules.specs.declared.events.PlaceEvent.{PlaceEvent}
@@ -86,15 +86,7 @@ store_call t here op (Creates name words) e b c k = record { begins = b; receive
 store_call t here op (Reading name target index) e b c k = record { begins = b; receives = c.1; sinks = k }
 store_call t here op (Writing target index value) e b c k = record { begins = b; receives = tt; sinks = k }
 store_call t here op (Freeing target) e b c k = record { begins = b; receives = tt; sinks = k }
-store_call t here op (Local left vars) e b c k = absurd (let f : ⊥ = cc in f)
-store_call t here op Opens e b c k = absurd (let f : ⊥ = cc in f)
-store_call t here op (Asks place) e b c k = absurd (let f : ⊥ = cc in f)
-store_call t here op (Spawns place) e b c k = absurd (let f : ⊥ = cc in f)
-store_call t here op (Waits faults) e b c k = absurd (let f : ⊥ = cc in f)
-store_call t here op Releases e b c k = absurd (let f : ⊥ = cc in f)
-store_call t here op (Prints value) e b c k = absurd (let f : ⊥ = cc in f)
-store_call t here op (Counts name) e b c k = absurd (let f : ⊥ = cc in f)
-store_call t here op (Done faults) e b c k = absurd (let f : ⊥ = cc in f)
+store_call t here op _ e b c k = absurd (let f : ⊥ = cc in f)
 
 pub is_store_call : (here : PlaceId) (z : Player) (op : CellOp) → TermSinks → next_of (next_does here z) ≡ Calls op → StoreCall z.term (next_does here z)
 is_store_call here z op sinks e = store_call z.term here.0 op (next_does here z) e (begins-so z.vars here.0 z.term) (call-so z.vars here.0 z.term) (sinks z.vars here.0 z.term)

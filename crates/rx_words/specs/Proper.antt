@@ -1,17 +1,14 @@
 -- The setups that words ask for.
 use Rattle.std.specs.Prelude.{ℕ, List}
 use Rattle.rx_rules.specs.Run.{Proper}
-use Rattle.rx_words.specs.Words.{Asked, Step, Gen, Check, Verify, Span, Live, BadWord, asked_any}
+use Rattle.rx_words.specs.Words.{Asked, Step, Gen, Live, asked_any}
 
 -- what is asked for is asked for under a proper setup
 abbrev pub HasProper : Asked → Type 0
 HasProper (Step U source) = Proper U
 HasProper (Gen size U seed) = Proper U
-HasProper Check = Unit {0}
-HasProper Verify = Unit {0}
-HasProper Span = Unit {0}
 HasProper (Live U workers watch) = Proper U
-HasProper (BadWord k) = Unit {0}
+HasProper _ = Unit {0}
 
 -- so it is, whatever the words
 abbrev pub SetupsAreProper : Type 0

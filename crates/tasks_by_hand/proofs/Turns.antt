@@ -37,20 +37,17 @@ use Rattle.tasks_by_hand.specs.Jobs.{JobTicketServes, Owns, OwnsSo, IsGoodJob, A
 
 asks_running : MayWaitNext → MayEndNext → (k : KeeperView) (who : Caller) (inside : Bool) (ask : Ask) (path : Option (List ℕ)) → IsHistory k → k.setup.places ≡ 3 → MayAskMoving (tree_seen k) who → Owns inside (own_told k.entries who.task) → SuitsRunning inside ask path → MayAskFor (tree_seen k) (Running who) path ask
 asks_running wait end k who inside Open path hist three may own s = (may, s.1)
-asks_running wait end k who inside (Calls to) path hist three may own s = absurd s
 asks_running wait end k who inside (Spawn to) path hist three may own s =
     (record { asks = may; target = (let some = s.0 in let all = tree-places k.setup.places k.entries in omega (arith, some, all, three)) }, s.1)
-asks_running wait end k who inside Arrive path hist three may own s = absurd s
 asks_running wait end k who true (Wait thrown) path hist three may own s =
     (wait (given k.setup) k.entries who own.0 [] (front_folds (given k.setup) k.entries k.behind hist.folds) own.1 may, s.1)
 asks_running wait end k who false (Wait thrown) path hist three may own s = absurd (let z : ⊥ = (let e : false ≡ true = s.0 in cc) in z)
-asks_running wait end k who inside Release path hist three may own s = absurd s
 asks_running wait end k who false (End thrown) path hist three may own s =
     (end (given k.setup) k.entries who (front_folds (given k.setup) k.entries k.behind hist.folds) own may, s.1)
 asks_running wait end k who true (End thrown) path hist three may own s = absurd (let z : ⊥ = (let e : true ≡ false = s.0 in cc) in z)
 asks_running wait end k who inside (Print value) path hist three may own s = (may, s)
 asks_running wait end k who inside Census path hist three may own s = (may, s)
-asks_running wait end k who inside Root path hist three may own s = absurd s
+asks_running wait end k who inside _ path hist three may own s = absurd s
 
 pub may_ask : MayWaitNext → MayEndNext → (k : KeeperView) (t : AnyTicket) (inside : Bool) (ask : Ask) (path : Option (List ℕ)) → IsHistory k → k.setup.places ≡ 3 → JobTicketServes (tree_seen k) t → OwnsSo k inside t → Suits t inside ask path → MayAskFor (tree_seen k) t path ask
 may_ask wait end k (Moving who) inside ask path hist three may own s =
@@ -86,9 +83,7 @@ least_serves T Host h = tt
 
 least_ticket : (t : AnyTicket) → (least t).ticket ≡ t
 least_ticket (Moving who) = refl
-least_ticket (Running who) = refl
-least_ticket (Held who) = refl
-least_ticket Host = refl
+least_ticket _ = refl
 
 -- Other jobs stay good.
 
@@ -194,13 +189,11 @@ same_task k k' q (Spawned ticket child) h t v e b = his q h.answers.who ticket v
 same_task k k' q (Landed ticket) h t v e b = his q h.answers.who ticket v (Running ticket) t (asked_by q _ h.answers.asked) (task_is ticket _ h.answers.ticket_is) refl e b
 same_task k k' q (Waits ticket) h t v e b = his q h.answers.who ticket v (Held ticket) t (asked_by q _ h.answers.asked) (task_is ticket _ h.answers.ticket_is) refl e b
 same_task k k' q (Released ticket outcome) h t v e b = his q h.answers.who ticket v (Running ticket) t (asked_by q _ h.answers.asked) (task_is ticket _ h.answers.ticket_is) refl e b
-same_task k k' q Ended h t v e b = no_ticket t e
 same_task k k' q (Printed ticket) h t v e b = his q h.answers.who ticket v (Running ticket) t (asked_by q _ h.answers.asked) (task_is ticket _ h.answers.ticket_is) refl e b
 same_task k k' q (Counted ticket places) h t v e b = his q h.answers.who ticket v (Running ticket) t (asked_by q _ h.answers.asked) (task_is ticket _ h.answers.ticket_is) refl e b
-same_task k k' q RootDone h t v e b = no_ticket t e
 same_task k k' q (NotYet place z) h t v e b = his_back q z t v h.answers.0 e b
-same_task k k' q (Lost place at) h t v e b = no_ticket t e
 same_task k k' q (NoMemory z) h t v e b = his_back q z t v (came_back q z h.back) e b
+same_task k k' q _ h t v e b = no_ticket t e
 
 -- what it owns
 out_of_one : (inside : Bool) (own : Owned) → Owns inside own → drop 1 own ≡ []
@@ -217,17 +210,8 @@ suits_as q y inside s e = subst (λ (z : Request). Suits z.ticket inside z.ask z
 owns_on : (k k' : KeeperView) (q : Request) (r : Reply) (inside : Bool) (own : Owned) → Suits q.ticket inside q.ask q.path → Applied k q r k' → Owns inside own → Owns (inside_after r inside) (owned_by r own)
 owns_on k k' q (Opened ticket scope) inside own s h o = into_one inside own scope (suits_as q _ inside s h.answers.asked).0 o
 owns_on k k' q (Called ticket callee) inside own s h o = absurd (suits_as q _ inside s h.answers.asked)
-owns_on k k' q (Spawned ticket child) inside own s h o = o
-owns_on k k' q (Landed ticket) inside own s h o = o
-owns_on k k' q (Waits ticket) inside own s h o = o
 owns_on k k' q (Released ticket outcome) inside own s h o = out_of_one inside own o
-owns_on k k' q Ended inside own s h o = o
-owns_on k k' q (Printed ticket) inside own s h o = o
-owns_on k k' q (Counted ticket places) inside own s h o = o
-owns_on k k' q RootDone inside own s h o = o
-owns_on k k' q (NotYet place z) inside own s h o = o
-owns_on k k' q (Lost place at) inside own s h o = o
-owns_on k k' q (NoMemory z) inside own s h o = o
+owns_on k k' q _ inside own s h o = o
 
 after_fits : CallsGoOn → CallsOwn → (k k' : KeeperView) (q : Request) (r : Reply) (j : Job) (left : ℕ) → q.ticket ≡ j.task → Suits q.ticket j.inside q.ask q.path → IsHistory k' → HasNumbers (tree_seen k') → IsGoodJob k j → MayApply (tree_seen k) q → Applied k q r k' → (t : AnyTicket) → asking_in r ≡ Some t → IsGoodJob k' (record { task = t; inside = inside_after r j.inside; left = left })
 after_fits go own k k' q r j left is suits hist few fits may h t e =

@@ -9,11 +9,10 @@ use Rattle.rx_finish.specs.Callers.{MayAskMoving, MayAskArrive, MayAskRelease}
 use Rattle.rx_ticket.specs.declared.tickets.AnyTicket.{AnyTicket}
 use Rattle.rx_ticket.specs.declared.tickets.AnyTicket.TheVariants.{Moving, Running, Held, Host}
 use Rattle.rx_history.specs.declared.asks.Ask.{Ask}
-use Rattle.rx_history.specs.declared.asks.Ask.TheVariants.{Open, At as Calls, Spawn, Arrive, Wait, Release, End, Print, Root, Census}
+use Rattle.rx_history.specs.declared.asks.Ask.TheVariants.{Open, Spawn, Arrive, Wait, Release, End, Print, Root, Census}
 use Rattle.rx_ledger.specs.declared.asks.Reply.{Reply}
-use Rattle.rx_ledger.specs.declared.asks.Reply.TheVariants.{Opened, Called, Spawned, Landed}
-use Rattle.rx_ledger.specs.declared.asks.Reply.TheVariants.{Waits, Released, Ended, Printed, Census as Counted}
-use Rattle.rx_ledger.specs.declared.asks.Reply.TheVariants.{RootDone, NotYet, Lost, NoMemory}
+use Rattle.rx_ledger.specs.declared.asks.Reply.TheVariants.{Opened}
+use Rattle.rx_ledger.specs.declared.asks.Reply.TheVariants.{Released}
 use Rattle.rx_ledger.specs.Answering.{asker}
 use Rattle.rx_ledger.specs.Asking.{HasPath, NoPath}
 use Rattle.rx_ledger.specs.Calling.{tree_seen}
@@ -60,15 +59,12 @@ pub record IsReady (k : KeeperView) (js : List Job) : Type 0 where
 -- what a job asks for suits its ticket
 abbrev pub SuitsRunning : Bool → Ask → Option (List ℕ) → Type 0
 SuitsRunning inside Open path = (inside ≡ false) × HasPath path
-SuitsRunning inside (Calls to) path = ⊥
 SuitsRunning inside (Spawn to) path = (to.0 < 3) × HasPath path
-SuitsRunning inside Arrive path = ⊥
 SuitsRunning inside (Wait thrown) path = (inside ≡ true) × NoPath path
-SuitsRunning inside Release path = ⊥
 SuitsRunning inside (End thrown) path = (inside ≡ false) × NoPath path
 SuitsRunning inside (Print value) path = HasPath path
-SuitsRunning inside Root path = ⊥
 SuitsRunning inside Census path = HasPath path
+SuitsRunning inside _ path = ⊥
 
 abbrev pub Suits : AnyTicket → Bool → Ask → Option (List ℕ) → Type 0
 Suits (Moving who) inside ask path = (ask ≡ Arrive) × (path ≡ None)
@@ -79,18 +75,8 @@ Suits Host inside ask path = (ask ≡ Root) × (path ≡ None)
 -- whether the caller is inside a finish after a reply
 abbrev pub inside_after : Reply → Bool → Bool
 inside_after (Opened ticket scope) inside = true
-inside_after (Called ticket callee) inside = inside
-inside_after (Spawned ticket child) inside = inside
-inside_after (Landed ticket) inside = inside
-inside_after (Waits ticket) inside = inside
 inside_after (Released ticket outcome) inside = false
-inside_after Ended inside = inside
-inside_after (Printed ticket) inside = inside
-inside_after (Counted ticket places) inside = inside
-inside_after RootDone inside = inside
-inside_after (NotYet place request) inside = inside
-inside_after (Lost place at) inside = inside
-inside_after (NoMemory request) inside = inside
+inside_after _ inside = inside
 
 -- the job with a ticket, where there is one
 abbrev pub jobs_of : Option AnyTicket → Bool → ℕ → List Job

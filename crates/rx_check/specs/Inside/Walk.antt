@@ -136,23 +136,12 @@ parts_of (CensusNode name) = record {
 }
 parts_of (PrintNode value) = record { first = Some value; second = None; target = None; assigned = None }
 parts_of (ThrowNode value) = record { first = Some value; second = None; target = None; assigned = None }
-parts_of (AsyncNode body) = record { first = None; second = None; target = None; assigned = None }
 parts_of (AtAsyncNode place body) = record { first = Some place; second = None; target = None; assigned = None }
 parts_of (AtNode place body) = record { first = Some place; second = None; target = None; assigned = None }
-parts_of (FinishNode body) = record { first = None; second = None; target = None; assigned = None }
 parts_of (IfNode test first other) = record { first = Some test; second = None; target = None; assigned = None }
-parts_of (RepeatNode times body) = record { first = None; second = None; target = None; assigned = None }
-parts_of (TryNode body dead_only handler) = record { first = None; second = None; target = None; assigned = None }
+parts_of _ = record { first = None; second = None; target = None; assigned = None }
 
 abbrev pub bodies_of : Node → Bodies
-bodies_of (SetNode name value) = NoBody
-bodies_of (NewNode name words) = NoBody
-bodies_of (GetNode name target index) = NoBody
-bodies_of (PutNode target index value) = NoBody
-bodies_of (ForgetNode target) = NoBody
-bodies_of (CensusNode name) = NoBody
-bodies_of (PrintNode value) = NoBody
-bodies_of (ThrowNode value) = NoBody
 bodies_of (AsyncNode body) = OneBody body
 bodies_of (AtAsyncNode place body) = OneBody body
 bodies_of (AtNode place body) = OneBody body
@@ -160,17 +149,10 @@ bodies_of (FinishNode body) = OneBody body
 bodies_of (IfNode test first other) = TwoBodies first other
 bodies_of (RepeatNode times body) = OneBody body
 bodies_of (TryNode body dead_only handler) = TwoBodies body handler
+bodies_of _ = NoBody
 
 -- the work of a statement, by the work of its blocks
 abbrev pub work_with : Node → ℕ → ℕ → ℕ
-work_with (SetNode name value) m n = 1
-work_with (NewNode name words) m n = 1
-work_with (GetNode name target index) m n = 1
-work_with (PutNode target index value) m n = 1
-work_with (ForgetNode target) m n = 1
-work_with (CensusNode name) m n = 1
-work_with (PrintNode value) m n = 1
-work_with (ThrowNode value) m n = 1
 work_with (AsyncNode body) m n = 1 + m
 work_with (AtAsyncNode place body) m n = 1 + m
 work_with (AtNode place body) m n = 1 + m
@@ -178,6 +160,7 @@ work_with (FinishNode body) m n = 1 + m
 work_with (IfNode test first other) m n = 1 + max m n
 work_with (RepeatNode times body) m n = 1 + times * (1 + m)
 work_with (TryNode body dead_only handler) m n = 1 + m + n
+work_with _ m n = 1
 
 -- a number above 100,000 counts as 100,001
 abbrev pub cap : ℕ → ℕ

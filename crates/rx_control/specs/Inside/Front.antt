@@ -1,8 +1,8 @@
 -- What stands at the front of a control: cited by its inner functions alone.
 use Rattle.std.specs.Prelude.{◌≡◌, ℕ, suc, List, [], ◌∷◌, ◌++◌, drop, Option, Some, None, option_to_list, slice_get, Bool, true, false}
 use Rattle.rx_base.specs.declared.values.Fault.{Fault}
-use Rattle.rx_rules.specs.Code.{Block, Nothing, Then, Stmt, SetTo, New, Get, Put, Forget, Census, Print, Throw, Async, AtAsync, At}
-use Rattle.rx_rules.specs.Code.{Finish, If, Repeat, Try}
+use Rattle.rx_rules.specs.Code.{Block, Nothing, Then, Stmt, At}
+use Rattle.rx_rules.specs.Code.{Finish}
 use Rattle.rx_rules.specs.Terms.{Term, Does, at, within}
 use Rattle.rx_syntax.specs.Shape.{Shape, ListStands}
 use Rattle.rx_syntax.specs.declared.nodes.StmtId.{StmtId}
@@ -24,19 +24,7 @@ lifted s d = within (λ t. wrap t s) d
 abbrev pub levels_opened : Stmt → List ℕ → List Level → List Level
 levels_opened (Finish body) x ls = More body x 0 ∷ Inside ∷ ls
 levels_opened (At place body) x ls = Waiting ∷ ls
-levels_opened (SetTo name value) x ls = ls
-levels_opened (New name words) x ls = ls
-levels_opened (Get name target index) x ls = ls
-levels_opened (Put target index value) x ls = ls
-levels_opened (Forget target) x ls = ls
-levels_opened (Census name) x ls = ls
-levels_opened (Print value) x ls = ls
-levels_opened (Throw value) x ls = ls
-levels_opened (Async body) x ls = ls
-levels_opened (AtAsync place body) x ls = ls
-levels_opened (If test first other) x ls = ls
-levels_opened (Repeat times body) x ls = ls
-levels_opened (Try body dead_only handler) x ls = ls
+levels_opened _ x ls = ls
 
 -- whether a level is a block without statements left
 abbrev pub LevelIsOver : Bool → Level → Type 0
@@ -49,11 +37,9 @@ LevelIsOver over Waiting = over ≡ false
 
 -- whether a level is that of a try or a finish
 abbrev pub IsCatch : Bool → Level → Type 0
-IsCatch catch (More left x i) = catch ≡ false
-IsCatch catch (Again body x k times) = catch ≡ false
 IsCatch catch (Tried dead_only handler x) = catch ≡ true
 IsCatch catch Inside = catch ≡ true
-IsCatch catch Waiting = catch ≡ false
+IsCatch catch _ = catch ≡ false
 
 -- the frames are settled and stand for the term of these levels
 pub record SettlesTo (s : Shape) (base : List ℕ) (frames : List Frame) (raised : Option (List Fault)) (levels : List Level) : Type 0 where

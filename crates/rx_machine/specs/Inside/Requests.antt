@@ -2,7 +2,7 @@
 use Rattle.std.specs.Prelude.{◌≡◌, ℕ, ◌+◌, ◌≤◌, Option, Some, None}
 use Rattle.rx_base.specs.declared.ids.PlaceId.{PlaceId}
 use Rattle.rx_rules.specs.Code.{Block}
-use Rattle.rx_rules.specs.Terms.{Does, Local, Makes, Gets, Puts, Forgets, Opens, Calls, Spawns, Waits, Releases, Prints, Counts, Done, does}
+use Rattle.rx_rules.specs.Terms.{Does, Local, Makes, Gets, Puts, Forgets, does}
 use Rattle.rx_rules.specs.Run.{Given}
 use Rattle.rx_rules.specs.Picked.{Game, Player}
 use Rattle.rx_runs.specs.Steps.{steps}
@@ -20,14 +20,7 @@ AsksOrEnds (Makes name words) = ⊥
 AsksOrEnds (Gets name target index) = ⊥
 AsksOrEnds (Puts target index value) = ⊥
 AsksOrEnds (Forgets target) = ⊥
-AsksOrEnds Opens = Unit {0}
-AsksOrEnds (Calls place) = Unit {0}
-AsksOrEnds (Spawns place) = Unit {0}
-AsksOrEnds (Waits faults) = Unit {0}
-AsksOrEnds Releases = Unit {0}
-AsksOrEnds (Prints value) = Unit {0}
-AsksOrEnds (Counts name) = Unit {0}
-AsksOrEnds (Done faults) = Unit {0}
+AsksOrEnds _ = Unit {0}
 
 -- what was told is the next step, which is a request or the end
 abbrev pub IsRequest : Next → Does → Type 0

@@ -1,6 +1,6 @@
 -- Where paths go on inside a statement: cited by the inner functions of this crate alone.
 use Rattle.std.specs.Prelude.{◌≡◌, ◌≤◌, ◌==◌, ℕ, zero, suc, Bool, true, false, cond, List, [], ◌∷◌, drop, Option, Some, None}
-use Rattle.rx_rules.specs.Code.{Stmt, SetTo, New, Get, Put, Forget, Census, Print, Throw, Async, AtAsync, At, Finish, If, Repeat, Try}
+use Rattle.rx_rules.specs.Code.{Stmt, Async, AtAsync, At, Finish, If, Repeat, Try}
 use Rattle.rx_rules.specs.Code.{Block, Nothing, Then}
 use Rattle.rx_rules.specs.Order.{is_kept_in}
 use Rattle.rx_syntax.specs.Shape.{Shape, BlockStands}
@@ -36,14 +36,6 @@ turn_in body x = None
 -- the part of a statement into which a path goes: its number, 0 where there is one alone, its block, and the path from the
 -- position in this block on
 abbrev pub part_in : Stmt → List ℕ → Option (ℕ × Block × List ℕ)
-part_in (SetTo name value) x = None
-part_in (New name words) x = None
-part_in (Get name target index) x = None
-part_in (Put target index value) x = None
-part_in (Forget target) x = None
-part_in (Census name) x = None
-part_in (Print value) x = None
-part_in (Throw value) x = None
 part_in (Async body) x = Some (0, body, x)
 part_in (AtAsync place body) x = Some (0, body, x)
 part_in (At place body) x = Some (0, body, x)
@@ -51,6 +43,7 @@ part_in (Finish body) x = Some (0, body, x)
 part_in (If test first other) x = one_in first other x
 part_in (Repeat times body) x = turn_in body x
 part_in (Try body dead_only handler) x = one_in body handler x
+part_in _ x = None
 
 -- how many numbers tell the part
 abbrev pub numbers_of : Stmt → ℕ

@@ -6,7 +6,7 @@ use Rattle.std.proofs.Common.{◌⊎◌, inl, inr}
 use Rattle.std.proofs.Math.Dec.{leb}
 use Rattle.std.proofs.lemmas.Bool.Decides.{leb_tells}
 use Rattle.rx_rules.specs.declared.entries.Entry.{Entry}
-use Rattle.rx_rules.specs.declared.entries.Entry.TheVariants.{Step, Root, Death, Join}
+use Rattle.rx_rules.specs.declared.entries.Entry.TheVariants.{Death}
 use Rattle.rx_parts.specs.Deaths.{place_shown}
 
 abbrev is_small : Option ℕ → Type 0
@@ -26,7 +26,5 @@ small_place d x (inl low) h = subst is_small (subst (λ (b : Bool). cond b (Some
 small_place d x (inr high) h = nobody x (subst (λ (b : Bool). cond b (Some d) None ≡ Some x) high.0 h)
 
 pub shows_small : (e : Entry) → ForSome (place_shown e) (λ p. p ≤ 15)
-shows_small (Step t act batch) x h = nobody x h
-shows_small (Root lost masked thrown) x h = nobody x h
 shows_small (Death d) x h = small_place d.0 x (leb_tells d.0 15) h
-shows_small (Join p) x h = nobody x h
+shows_small _ x h = nobody x h

@@ -99,16 +99,11 @@ begins_journal p line = bytes_eq line (codes "journal " ++ natural_text p)
 
 -- whether the line has to be an entry or an event, after which the state is of the same kind
 abbrev pub told_there : ReadingState → List ℕ → Bool
-told_there Untitled line = false
-told_there Titled line = false
-told_there (Sized places heap) line = false
-told_there (Listed places heap kills) line = false
-told_there (Planned setup) line = false
 told_there (Entering setup entries) line = not (begins_journal 0 line)
 told_there (Logging setup entries journals events) line =
     not (begins_journal (length journals + 1) line && nat_lt (length journals + 1) (in_all setup))
     && not (bytes_eq line (codes "done") && length journals + 1 == in_all setup)
-told_there (Over setup entries journals) line = false
+told_there _ line = false
 
 abbrev pub state_with_sizes : Option (ℕ × ℕ) → Option ReadingState
 state_with_sizes None = None

@@ -49,14 +49,7 @@ item_words (Catch d) = catch_words d
 
 -- an item that a script can have
 abbrev pub IsSimple : Stmt → Type 0
-IsSimple (SetTo n e) = Unit {0}
 IsSimple (New n k) = may_hold k ≡ true
-IsSimple (Get n t e) = Unit {0}
-IsSimple (Put t i e) = Unit {0}
-IsSimple (Forget t) = Unit {0}
-IsSimple (Census n) = Unit {0}
-IsSimple (Print e) = Unit {0}
-IsSimple (Throw e) = Unit {0}
 IsSimple (Async b) = ⊥
 IsSimple (AtAsync e b) = ⊥
 IsSimple (At e b) = ⊥
@@ -64,22 +57,16 @@ IsSimple (Finish b) = ⊥
 IsSimple (If e a b) = ⊥
 IsSimple (Repeat n b) = ⊥
 IsSimple (Try a d b) = ⊥
+IsSimple _ = Unit {0}
 
 abbrev pub IsOpener : Opener → Type 0
 IsOpener (ByRepeat n) = may_turn n ≡ true
-IsOpener ByAsync = Unit {0}
-IsOpener (ByAtAsync e) = Unit {0}
-IsOpener (ByAt e) = Unit {0}
-IsOpener ByFinish = Unit {0}
-IsOpener (ByIf e) = Unit {0}
-IsOpener ByTry = Unit {0}
+IsOpener _ = Unit {0}
 
 abbrev pub IsItem : Item → Type 0
 IsItem (Whole s) = IsSimple s
 IsItem (Open o) = IsOpener o
-IsItem Close = Unit {0}
-IsItem Else = Unit {0}
-IsItem (Catch d) = Unit {0}
+IsItem _ = Unit {0}
 
 -- one token
 abbrev pub called : Token → Option (Reader ℕ)

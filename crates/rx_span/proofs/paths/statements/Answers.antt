@@ -3,7 +3,7 @@ use Rattle.std.proofs.lemmas.List.{drop_all}
 use Rattle.rx_base.proofs.Elements.{drop-next}
 use Rattle.rx_rules.specs.declared.entries.Act.{Act}
 use Rattle.rx_rules.specs.declared.entries.Entry.{Entry}
-use Rattle.rx_rules.specs.declared.entries.Entry.TheVariants.{Step, Root, Death, Join}
+use Rattle.rx_rules.specs.declared.entries.Entry.TheVariants.{Step}
 use Rattle.rx_rules.proofs.Common.{TaskId, told, told_in, own_path}
 use Rattle.rx_span.proofs.paths.statements.Goals as goal
 use Rattle.rx_span.proofs.paths.statements.Goals.{in-Step+else-loop-k-test+in-Some+in_ok-add-2, in-Step+else-loop-k-test+in_default-path_of, in_default}
@@ -35,9 +35,7 @@ entry-told done more e es i h m k =
 
 told-other : (e : Entry) → ((t : TaskId) (act : Act) (batch : List (List ℕ)) → e ≡ Step t act batch → ⊥) → told_in e ≡ []
 told-other (Step t act batch) n = absurd (n t act batch refl)
-told-other (Root lost masked thrown) n = refl
-told-other (Death d) n = refl
-told-other (Join d) n = refl
+told-other _ n = refl
 
 -- the whole of a batch, and then the entry's own
 whole-told : (done all batch own : List (List ℕ)) (k : ℕ) → length batch ≤ k → all ++ drop k batch ≡ done ++ batch → all ++ own ≡ done ++ (batch ++ own)

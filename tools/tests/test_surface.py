@@ -47,7 +47,6 @@ OTHERWISE = [
      ["rx_ledger: Keeper: no type with the arguments of Keeper<CountLedger, u8>"]),
     ("| rx_ledger | `Keeper` | `Keeper<CountLedger>` | ", "| ", ["rx_ledger: Keeper: struct Keeper<L: FinishLedger> { .. }"]),
     ("| rx_book | `Object::Fixed` | `type Fixed` | ", "| ", ["rx_book: Object::Fixed: type Fixed"]),
-    ("| rx_trace | `read_trace`, `TraceFault` | ", "| rx_trace | `read_trace` | ", ["rx_trace: TraceFault: in rx_reading"]),
     ("`fn tell(&mut self) -> Receipt`", "`fn tell(&self) -> Receipt`",
      ["rx_monitor: BoardWriter::tell: fn tell(&mut self) -> Receipt",
       "rx_monitor: BoardWriter::tell: fn tell(&self) -> Receipt (named, and not so)"]),

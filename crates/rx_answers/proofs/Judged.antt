@@ -5,7 +5,7 @@ use Rattle.rx_rules.specs.declared.entries.Entry.{Entry}
 use Rattle.rx_rules.specs.declared.events.PlaceEvent.{PlaceEvent}
 use Rattle.rx_syntax.specs.Grammar.{IsScript}
 use Rattle.rx_script.specs.Faults.{OneScript}
-use Rattle.rx_reading.specs.Reading.{IsText, TextsTellThePair, TextsHaveNoBadLine}
+use Rattle.rx_trace.specs.Reading.{IsText, TextsTellThePair, TextsHaveNoBadLine}
 use Rattle.rx_answers.specs.Pair.{PartsAreOne}
 use Rattle.rx_verdict.specs.declared.verdict.Verdict.{Verdict}
 use Rattle.rx_verdict.specs.declared.verdict.Verdict.TheVariants.{Run, Entry as AtEntry, End, Event, Open}

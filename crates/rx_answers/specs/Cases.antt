@@ -7,7 +7,7 @@ use Rattle.rx_rules.specs.Run.{Given}
 use Rattle.rx_syntax.specs.Grammar.{IsScript}
 use Rattle.rx_check.specs.Checked.{Meets}
 use Rattle.rx_trace.specs.Text.{trace_text}
-use Rattle.rx_reading.specs.Limits.{IsWithin}
+use Rattle.rx_trace.specs.Limits.{IsWithin}
 use Rattle.rx_answers.specs.Pair.{IsPair}
 
 -- The bytes are a pair of a script that meets the rules, and of the text of these entries and journals under this setup, which are

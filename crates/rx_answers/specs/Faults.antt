@@ -3,7 +3,7 @@ use Rattle.std.specs.Prelude.{ℕ, List}
 use Rattle.rx_rules.specs.Code.{Block}
 use Rattle.rx_syntax.specs.Grammar.{IsScript}
 use Rattle.rx_check.specs.Checked.{Meets}
-use Rattle.rx_reading.specs.Reading.{IsBadLine}
+use Rattle.rx_trace.specs.Reading.{IsBadLine}
 use Rattle.rx_answers.specs.Pair.{IsPair}
 use Rattle.rx_rules.specs.declared.entries.Entry.{Entry}
 use Rattle.rx_rules.specs.declared.events.PlaceEvent.{PlaceEvent}

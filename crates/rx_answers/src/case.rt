@@ -12,8 +12,8 @@ use crate::split_pair;
 use rx_base::NoMemory;
 use rx_check::Program;
 use rx_history::{History, Journals};
-use rx_reading::{TraceFault, read_trace};
 use rx_script::{ProgramFault, program_of};
+use rx_trace::{TraceFault, read_trace};
 use std::alloc::Global;
 
 /// Why no answer was made of bytes. A cause comes only where none before it stands.

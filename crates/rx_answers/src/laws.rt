@@ -3,9 +3,9 @@ ghost use Rattle.rx_answers.specs.Faults.{CasesHaveNoFault};
 ghost use Rattle.rx_answers.specs.Laws.{AnswerIsOne, TextTellsAnswer, WorkedLines};
 
 use crate::parts_are_one;
-use rx_reading::laws::{texts_have_no_bad_line, texts_tell_the_pair};
 use rx_script::{one_script, programs_have_no_fault};
 use rx_span::laws::one_span;
+use rx_trace::laws::{texts_have_no_bad_line, texts_tell_the_pair};
 use rx_verdict::verdict_is_one;
 
 /// The same bytes have one answer to a question.

@@ -1,6 +1,6 @@
 //! The words of a line of a trace, and what a word or a few of them tell as a field: a number, a place, a task, a scope, a path, a
 //! kill, a block, and the parts of a line that may be missing. It stands on rx_base, rx_text and rx_kills. docs/trace.md states the
-//! forms. The layer above, rx_reading, uses that `Words` is seen as the list of the words that are left, and that each call answers
+//! forms. The layer above, rx_trace, uses that `Words` is seen as the list of the words that are left, and that each call answers
 //! exactly what the definition of its field gives of that list, and leaves the words that it leaves. Where a call of a field or of
 //! a part answers none, its contract does not say which words are left.
 #![tactic(auto)]

@@ -6,7 +6,7 @@ use Rattle.rx_syntax.specs.Grammar.{IsScript}
 use Rattle.rx_script.specs.Faults.{IsFaultAt}
 use Rattle.rx_check.specs.Rules.{verdict}
 use Rattle.rx_check.specs.Checked.{Meets}
-use Rattle.rx_reading.specs.Reading.{IsBadLine}
+use Rattle.rx_trace.specs.Reading.{IsBadLine}
 use Rattle.rx_answers.specs.Faults.{IsNoPair}
 use Rattle.rx_program.specs.Top.{most_bytes, WasRead, WasPair, GaveScript}
 

@@ -4,3 +4,7 @@ pub mod EntryLines
 pub mod EventLines
 pub mod Text
 pub mod Worked
+pub mod Limits
+pub mod Reading
+pub mod Faults
+pub mod Inside

@@ -1,6 +1,7 @@
 // Laws of the text: worked histories have the texts that docs/trace.md shows. They do nothing when they run.
 ghost use Rattle.rx_trace.specs.Worked.{OrdinaryCaseHasItsText, LossInTransitHasItsText, MaskedFaultHasItsText};
 ghost use Rattle.rx_trace.specs.Worked.{JoiningPlaceHasItsText, BriefPlaceHasItsText};
+ghost use Rattle.rx_trace.specs.Reading.{TextsTellThePair, TextsHaveNoBadLine};
 
 /// The text of the ordinary case, whole.
 pub fn ordinary_case_has_its_text()
@@ -25,4 +26,14 @@ pub fn joining_place_has_its_text()
 /// The text of a place that joins and dies at once, whole: with the close of its journal.
 pub fn brief_place_has_its_text()
     ensures { BriefPlaceHasItsText }
+{}
+
+/// Two pairs within the limits that have one text are equal.
+pub fn texts_tell_the_pair()
+    ensures { TextsTellThePair }
+{}
+
+/// The text of a pair within the limits has no bad line.
+pub fn texts_have_no_bad_line()
+    ensures { TextsHaveNoBadLine }
 {}

@@ -3,8 +3,9 @@ use Rattle.std.proofs.Common.{◌≡◌, ℕ, ◌<◌, ◌^◌, Bool, true, fals
 use Rattle.std.proofs.lemmas.Bool.{true≢false, eq-eqb, eqb-true}
 use Rattle.rx_base.proofs.SameIds.{scope-is}
 use Rattle.rx_rules.proofs.Common.{MembersMakeTheSet, ScopeId, TaskId, PlaceSet, Fault, Tree, quiet, AllowedAct, Unstruck, MayFree, NoMemory as NoRoom, made_act}
-use Rattle.rx_rules.specs.declared.entries.Act.TheVariants.{Release}
+use Rattle.rx_rules.specs.declared.entries.Act.TheVariants.{Wait, Release}
 use Rattle.rx_rules.specs.declared.tasks.Task.{Task}
+use Rattle.rx_rules.specs.declared.tasks.Scope.{Scope}
 use Rattle.rx_finish.specs.declared.ledger.Caller.{Caller}
 use Rattle.rx_finish.specs.declared.ledger.Outcome.{Outcome}
 use Rattle.rx_rules.specs.declared.tasks.Blow.{Blow}
@@ -50,6 +51,23 @@ lost_never T t b Q was act =
     let struck : act.task.struck ≡ Some b = rw (act.stands, blow_of) at was in
     let both : None ≡ Some b = sym act.unstruck ∙ struck in
     cc
+
+-- a task waits in one scope
+waited_same : (T : Tree) (t : TaskId) (r s : ScopeId) (f h : List Fault) → AllowedAct T t (Wait r f) → AllowedAct T t (Wait s h) → r ≡ s
+waited_same T t r s f h a b =
+    let both : Some a.asks.1 ≡ Some b.asks.1 = sym a.asks.2.0 ∙ b.asks.2.0 in
+    let one : a.asks.1 ≡ b.asks.1 = cc in
+    sym a.asks.2.1 ∙ (ap (λ (g : Scope). g.number) one ∙ b.asks.2.1)
+
+-- where it makes one the comparison of the scopes decides
+pub wait_decides : (T : Tree) (who : Caller) (s : ScopeId) (faults thrown : List Fault) (S : Tree → Type 0) (b : Bool) → b ≡ (who.inner.0 == s.0) → faults ≡ thrown → Did T who (Wait who.inner faults) S → Decides b (AllowedAct T who.task (Wait s thrown)) (S (made_act T who.task (Wait s thrown)))
+wait_decides T who s faults thrown S true e same did =
+    let is : who.inner ≡ s = scope-is who.inner s (eqb-true who.inner.0 s.0 (sym e)) in (
+      subst (λ (r : ScopeId). AllowedAct T who.task (Wait r thrown)) is (subst (λ (f : List Fault). AllowedAct T who.task (Wait who.inner f)) same did.allowed),
+      subst (λ (r : ScopeId). S (made_act T who.task (Wait r thrown))) is (subst (λ (f : List Fault). S (made_act T who.task (Wait who.inner f))) same did.made),
+    )
+wait_decides T who s faults thrown S false e same did = λ act.
+    true≢false (sym (eq-eqb who.inner.0 s.0 (ap (λ (x : ScopeId). x.0) (waited_same T who.task who.inner s faults thrown did.allowed act))) ∙ sym e)
 
 -- where the ledger refuses a release the entry is not allowed
 pub release_refused : (T : Tree) (who : Caller) (s : ScopeId) (lost : PlaceSet) (masked : ℕ) (thrown : List Fault) (S : Tree → Type 0) (fault : LedgerFault) → IsRefusal fault → ReleaseReply T who (Err fault) S → who.inner ≡ s → AllowedAct T who.task (Release s lost masked thrown) → ⊥

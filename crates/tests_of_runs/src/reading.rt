@@ -2,8 +2,7 @@
 ghost use Rattle.std.specs.Prelude.{◌<◌, ◌^◌, length};
 
 use crate::same::same;
-use rx_reading::{TraceFault, read_trace};
-use rx_trace::write_trace;
+use rx_trace::{TraceFault, read_trace, write_trace};
 use std::alloc::Global;
 use std::test::Fail;
 

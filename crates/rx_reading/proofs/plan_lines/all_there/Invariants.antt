@@ -1,7 +1,0 @@
-use Rattle.std.proofs.Common.{◌≡◌, drop}
-use Rattle.rx_reading.specs.Inside.Machine.{all_there}
-use Rattle.rx_reading.proofs.plan_lines.all_there.Given as goal
-
--- what is left decides
-abbrev pub invariant-loop-i : goal.invariant-loop-i
-invariant-loop-i l = all_there l.places l.joins (drop l.i l.kills) ≡ all_there l.places l.joins l.kills

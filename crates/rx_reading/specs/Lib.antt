@@ -1,4 +1,0 @@
-pub mod Limits
-pub mod Reading
-pub mod Faults
-pub mod Inside

@@ -22,8 +22,7 @@ path_of _ o to b h = absurd (let g : ⊥ = cc h in g)
 pub started_path : (next : Next) (to : PlaceId) (vars : Vars) (here : ℕ) (t : Term) → next ≡ next_of (does vars here t) → target next ≡ Some to → (x : List ℕ) × (begins t ≡ Some x)
 started_path next to vars here t is h = path_of (does vars here t) (begins t) to (begins-so vars here t) (ap target (sym is) ∙ h)
 
--- The control.
-
+-- the control after a wait was asked for
 pub ready_waits : (s : Shape) (n : Next) (old new : Control) → n ≡ BookStep WantWait → new.vars ≡ old.vars
     → ((t : Term) (here : PlaceId) (faults : List Fault) → StandsFor s old t → carried (does old.vars here.0 t) ≡ Some faults → StandsFor s new (replaced t Empty))
     → ((t : Term) (here : PlaceId) (faults list : List Fault) → does old.vars here.0 t ≡ Waits faults → granted list (replaced t Empty) ≡ granted list t) → IsReady s n old new

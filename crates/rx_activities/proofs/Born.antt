@@ -1,6 +1,5 @@
 -- What a task knows that was started, once its pass of the ledger's book has met a note of its starter's pass.
 use Rattle.std.proofs.Common.{◌≡◌, ◌≢◌, ◌+◌, ◌<◌, ◌≤◌, ◌^◌, ◌==◌, ℕ, suc, Bool, true, false, cond, List, [], ◌∷◌, ◌++◌, length, map, drop, Option, Some, None, slice_get, refl, ap, sym, ◌∙◌, subst, arith}
-use Rattle.std.specs.Global.{Box}
 use Rattle.std.proofs.lemmas.Bool.{eqb-true, eq-eqb, ne_eqb}
 use Rattle.std.proofs.lemmas.Option.{same_Some}
 use mathlib.Core.List.{IsPrefix}
@@ -19,8 +18,6 @@ use Rattle.rx_finish.specs.Callers.{HasNumbers, MayAskMoving, MayAskArrive}
 use Rattle.rx_ticket.specs.declared.tickets.AnyTicket.{AnyTicket}
 use Rattle.rx_ticket.specs.declared.tickets.AnyTicket.TheVariants.{Moving, Running}
 use Rattle.rx_syntax.specs.Shape.{Stands}
-use Rattle.rx_control.specs.declared.control.Control.{Control}
-use Rattle.rx_control.specs.Stands.{StandsFor}
 use Rattle.rx_history.specs.Setups.{given}
 use Rattle.rx_book.specs.declared.views.Stamped.{Stamped}
 use Rattle.rx_book.specs.declared.views.View.{View}
@@ -266,9 +263,9 @@ module _ (L : BookName LedgerFixed) (rest : Hand) (reply : Reply) (child_of : Op
           (go (subst (λ (es : List Entry). HasNumbers (tree_of places es)) lines_are (numbers_are_left places (entries_at z.seen) few_z))))
 
       -- on its way
-      away_so : (box : Box Control) → box.value ≡ ch.control.value → (from.0 == to.0) ≡ false → (length (entries_at m.seen) + 1 < 2 ^ 31 → MayAskArrive (tree_of places (entries_at m.seen)) (fresh_caller new scope (Travel from to))) → (code : Block) → Stands L.fixed.program.script code
-          → ComesSo code L (record { control = box; ticket = fresh_caller new scope (Travel from to); pass = met })
-      away_so box same apart serves code st =
+      away_so : (from.0 == to.0) ≡ false → (length (entries_at m.seen) + 1 < 2 ^ 31 → MayAskArrive (tree_of places (entries_at m.seen)) (fresh_caller new scope (Travel from to))) → (code : Block) → Stands L.fixed.program.script code
+          → ComesSo code L ch.control.value (fresh_caller new scope (Travel from to)) met
+      away_so apart serves code st =
           let x = said code st in
           let s' = s code st in
           record {
@@ -280,8 +277,8 @@ module _ (L : BookName LedgerFixed) (rest : Hand) (reply : Reply) (child_of : Op
             place = refl;
             no_batch = refl;
             unnamed = refl;
-            term = subst (λ (c : Control). StandsFor L.fixed.program.script c (child s'.stand.term)) (sym same) (prepared.term s'.stand.term s'.term);
-            vars = ap (λ (c : Control). c.vars) same ∙ (prepared.vars ∙ s'.vars);
+            term = prepared.term s'.stand.term s'.term;
+            vars = prepared.vars ∙ s'.vars;
             some = some-child s'.stand.term s'.some;
             known = known s'.stand.vars.places s'.known;
             unheld = unheld-child s'.stand.term;
@@ -290,13 +287,13 @@ module _ (L : BookName LedgerFixed) (rest : Hand) (reply : Reply) (child_of : Op
             serves = serves;
           }
 
-      pub comes : (box : Box Control) → box.value ≡ ch.control.value → (from.0 == to.0) ≡ false → (length (entries_at m.seen) + 1 < 2 ^ 31 → MayAskArrive (tree_of places (entries_at m.seen)) (fresh_caller new scope (Travel from to)))
-          → TravellerInvariant L (record { control = box; ticket = fresh_caller new scope (Travel from to); pass = met })
-      comes box same apart serves =
+      pub comes : (from.0 == to.0) ≡ false → (length (entries_at m.seen) + 1 < 2 ^ 31 → MayAskArrive (tree_of places (entries_at m.seen)) (fresh_caller new scope (Travel from to)))
+          → TravellerInvariant L ch.control.value (fresh_caller new scope (Travel from to)) met
+      comes apart serves =
           record {
             pass = run;
             inside = by_seen (λ l. to.0 < (tree_of places (entries_at l)).places) inside;
-            stands = λ code st. away_so box same apart serves code st;
+            stands = λ code st. away_so apart serves code st;
           }
 
       -- at its starter's place
@@ -372,8 +369,7 @@ module _ (L : BookName LedgerFixed) (rest : Hand) (reply : Reply) (child_of : Op
           word = prepared.word ∙ k.pass.word;
           begins = λ met h.
               subst (λ (t : AnyTicket). StartsKnowing L rest.place t ch.control.value met ch.seat) (sym is)
-              (λ box same.
-              comes met h box same apart (λ few. served met h (λ T. MayAskArrive T (fresh_caller new scope (Travel from to))) (λ numbers. subst (λ (t : AnyTicket). MayStart (tree_of places now.entries) (Some t)) is (serves numbers)) few));
+              (comes met h apart (λ few. served met h (λ T. MayAskArrive T (fresh_caller new scope (Travel from to))) (λ numbers. subst (λ (t : AnyTicket). MayStart (tree_of places now.entries) (Some t)) is (serves numbers)) few));
         }
 
     here : (ticket : AnyTicket) → ticket ≡ live → (from.0 == to.0) ≡ true → (HasNumbers (tree_of places now.entries) → MayStart (tree_of places now.entries) (Some ticket)) → IsBorn L rest.place rest.pass ticket ch

@@ -20,8 +20,10 @@ use Rattle.rx_history.specs.Next.{next_of}
 use Rattle.rx_control.specs.Stands.{StandsFor}
 use Rattle.rx_store.specs.Asked.{MayAskStore}
 use Rattle.rx_book.specs.declared.views.Stamped.{Stamped}
+use Rattle.rx_book.specs.declared.views.View.{View}
 use Rattle.rx_book.specs.declared.passes.Pass.{Pass}
 use Rattle.rx_book.specs.History.{items_of}
+use Rattle.rx_book.specs.Kept.{parent_left}
 use Rattle.rx_book.specs.Passes.{view_of, word_of}
 use Rattle.rx_book.specs.Named.{BookName}
 use Rattle.rx_book.specs.Calls.{Looked}
@@ -82,14 +84,31 @@ walk_up (stores a low told b w) = (let up = walk_up w in omega (arith, low, up))
 pub said : (code : Block) (U : Given) (t : ℕ) (a : Actor) (g h : List (Stamped EntryItem)) → h ≡ g → (l : LegalLedger code U (ledger_items g)) → slice_get l.actors t ≡ Some a → (m : LegalLedger code U (ledger_items h)) × (slice_get m.actors t ≡ Some a)
 said code U t a g h e l s = subst (λ (x : List (Stamped EntryItem)). (m : LegalLedger code U (ledger_items x)) × (slice_get m.actors t ≡ Some a)) (sym e) (l, s)
 
+-- a pass of the ledger's book has seen as much as before, and may know of more entries
+pub record SeesOn (v w : View EntryItem) : Type 0 where
+  pub later : v.reach ≤ w.reach
+  pub seen : w.seen ≡ v.seen
+  pub number : w.number ≡ v.number
+
+-- so it has after a look at the ledger's word, and a split
+pub sees_on : (v w z : View EntryItem) → Looked v w → z ≡ parent_left w → SeesOn v z
+sees_on v w z l is =
+    let reach : z.reach ≡ w.reach = ap (λ (x : View EntryItem). x.reach) is in
+    let later = l.later in
+    record {
+      later = omega (arith, reach, later);
+      seen = ap (λ (x : View EntryItem). x.seen) is ∙ l.same.0;
+      number = ap (λ (x : View EntryItem). x.number) is ∙ l.same.2;
+    }
+
 -- the activity with another pass of the ledger's book
 abbrev pub with_pass : Hand → Pass EntryItem → Hand
 with_pass a q = record a { pass = q }
 
 module _ (L : BookName LedgerFixed) (a : Hand) (q : Pass EntryItem) (k : ActivityInvariant L a) (word : word_of q ≡ word_of a.pass)
-    (l : Looked (view_of a.pass) (view_of q)) where
+    (l : SeesOn (view_of a.pass) (view_of q)) where
   seen : (view_of q).seen ≡ (view_of a.pass).seen
-  seen = l.same.0
+  seen = l.seen
 
   -- what is true of what was seen stays so
   kept : (P : List (Stamped EntryItem) → Type 0) → P (view_of a.pass).seen → P (view_of q).seen
@@ -105,7 +124,7 @@ module _ (L : BookName LedgerFixed) (a : Hand) (q : Pass EntryItem) (k : Activit
         legal = both.0;
         actor = s.actor;
         stands = both.1;
-        holder = s.holder ∙ sym l.same.2;
+        holder = s.holder ∙ sym l.number;
         seated = s.seated;
         here = s.here;
         place = s.place;
@@ -128,7 +147,7 @@ module _ (L : BookName LedgerFixed) (a : Hand) (q : Pass EntryItem) (k : Activit
   unfolding looked_stands
   looked_stand code t s = refl
 
-  -- an activity that has looked at the ledger's word knows what it knew
+  -- an activity whose pass sees on knows what it knew
   pub looked_knows : ActivityInvariant L (with_pass a q)
   looked_knows =
       record {
@@ -175,7 +194,7 @@ module _ (L : BookName LedgerFixed) (a : Hand) (q : Pass EntryItem) (k : Activit
                 begins = begun s.stand.term s.term;
                 above = omega (arith, up, low, above);
               };
-              held = s.holder ∙ sym l.same.2;
+              held = s.holder ∙ sym l.number;
             };
         stamped = below;
         alive = alive;

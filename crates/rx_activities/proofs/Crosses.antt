@@ -4,8 +4,6 @@ use denote.RattleType.{RattleType}
 use denote.Param.Send.{IsSend, sendable}
 use Rattle.std.proofs.Crossing.{crosses}
 use Rattle.std.proofs.marker.PhantomData.TheSendSync as phantom
-use Rattle.std.proofs.option.Option.TheSendSync as option
-use Rattle.std.proofs.result.Result.TheSendSync as result
 use Rattle.rx_base.proofs.ids.PlaceId.TheSendSync as place
 use Rattle.rx_base.proofs.lists.Batch.TheSendSync as batch
 use Rattle.rx_book.proofs.passes.Pass.TheSendSync as pass
@@ -20,4 +18,4 @@ pub hand_field_send : IsSend Hand.the_field.row
 hand_field_send = search (control.the_field_send, batch.the_send, ticket.the_field_send, place.the_field_send, pass.the_field_send, crosses, sendable) depth 60 fits 20000
 
 pub activity_send : (N : RattleType) (g : Ghosts N.Denot) → IsSend N → IsSend (Activity.the_row N g)
-activity_send N g s = search (hand_field_send, pass.the_field_send, result.the_field_send, option.the_field_send, phantom.the_field_send, crosses, sendable) depth 60 fits 20000
+activity_send N g s = search (hand_field_send, phantom.the_field_send, crosses, sendable) depth 60 fits 20000

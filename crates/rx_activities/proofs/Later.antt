@@ -34,8 +34,12 @@ use Rattle.rx_parts.proofs.Growing.{task-stays}
 use Rattle.rx_objects.proofs.Fitting.{others_spare}
 use Rattle.rx_objects.proofs.Staying.{entries_same}
 use Rattle.rx_activities.specs.declared.hand.Hand.{Hand}
-use Rattle.rx_activities.specs.Knowing.{StandsSo, TicketServes, kinds_told}
+use Rattle.rx_activities.specs.Knowing.{StandsSo, ActivityInvariant, TicketServes, kinds_told}
 use Rattle.rx_activities.proofs.Calling.{with_pass}
+
+-- what is known in a book is known by each name of it
+pub of_named : (L M : BookName LedgerFixed) (hand : Hand) → L ≡ M → ActivityInvariant L hand → ActivityInvariant M hand
+of_named L M hand is k = subst (λ (b : BookName LedgerFixed). ActivityInvariant b hand) is k
 
 -- the scopes of a task stay where all entries are of others
 pub own_stays : (t : TaskId) (own : Owned) (es : List Entry) → Each (NotBy t) es → own_from t own es ≡ own

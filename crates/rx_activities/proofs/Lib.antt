@@ -21,4 +21,3 @@ pub mod Stored
 pub mod BeganMain
 pub mod Landed
 pub mod Crosses
-pub mod Kept

@@ -1,4 +1,4 @@
--- What an activity at its place is never answered: an arrival, and the root's release.
+-- What an activity at its place is never answered: an arrival.
 use Rattle.std.proofs.Common.{◌≡◌, Option, ap}
 use Rattle.rx_rules.proofs.Common.{Block}
 use Rattle.rx_syntax.specs.Shape.{Shape, Stands}

@@ -1,5 +1,5 @@
 -- What an activity knows after the store's answer.
-use Rattle.std.proofs.Common.{◌≡◌, ◌<◌, ◌≤◌, max, ℕ, Bool, true, false, List, [], ◌∷◌, ◌++◌, map, drop, length, Option, Some, Result, Ok, Err, OnOk, is_err, refl, ap, sym, ◌∙◌, subst, arith, length-append}
+use Rattle.std.proofs.Common.{◌≡◌, ◌<◌, ◌≤◌, max, ℕ, Bool, true, false, List, [], ◌∷◌, ◌++◌, map, drop, length, Option, Some, Result, refl, ap, sym, ◌∙◌, subst, arith, length-append}
 use Rattle.std.specs.List.{filter_map}
 use Rattle.std.proofs.lemmas.List.{append-nil, map-append, drop-append-le}
 use mathlib.Core.List.{IsPrefix}
@@ -62,15 +62,15 @@ use Rattle.rx_tree_laws.proofs.SpineGrants.{answer_spine}
 use Rattle.rx_tree_laws.proofs.Beginning.{begun_one}
 use Rattle.rx_runs.proofs.Knowing.{answer_knows}
 use Rattle.rx_runs.proofs.SomeWords.{some-answered}
-use Rattle.rx_activities.proofs.Calling.{fixed_at, op_of, with_pass, walk_up, looked_stands, looked_stand, call_is}
+use Rattle.rx_activities.proofs.Calling.{SeesOn, fixed_at, op_of, with_pass, walk_up, looked_stands, looked_stand, call_is}
 use Rattle.rx_activities.proofs.Later.{stands_later, later_stand, entries_more}
 
 -- the activity after the answer
 abbrev pub stored : Hand → Box Control → List (List ℕ) → Pass EntryItem → Pass EventItem → Hand
 stored a c batch p seat = record a { control = c; batch = batch; made = true; pass = p; seat = seat }
 
--- The task of activity a, which looked at the ledger's word, has called the store.
-module _ (L : BookName LedgerFixed) (a : Hand) (k : ActivityInvariant L a) (q : Pass EntryItem) (word : word_of q ≡ word_of a.pass) (l : Looked (view_of a.pass) (view_of q)) (words n : ℕ) (x : List ℕ) (op : CellOp) (above : (view_of a.pass).reach ≤ n)
+-- The task of activity a, whose pass has seen on, has called the store.
+module _ (L : BookName LedgerFixed) (a : Hand) (k : ActivityInvariant L a) (q : Pass EntryItem) (word : word_of q ≡ word_of a.pass) (l : SeesOn (view_of a.pass) (view_of q)) (words n : ℕ) (x : List ℕ) (op : CellOp) (above : (view_of a.pass).reach ≤ n)
     (place : EventItem → Option ℕ) (answer : Result (Option Value) Fault) (p : Pass EntryItem) (seat : Pass EventItem)
     (called : Called place (PlaceDoes (fixed_at L a words)) (PlaceIsLegal (fixed_at L a words)) (view_of a.seat) (op_of k.who.task n x op q) (Answered answer p) (view_of seat)) where
   abbrev U : Given
@@ -266,7 +266,7 @@ module _ (L : BookName LedgerFixed) (a : Hand) (k : ActivityInvariant L a) (q : 
       wider =
           let places = L.fixed.setup.places in
           let few : a.place.0 < (tree_of places (entries_at (view_of a.pass).seen)).places = k.inside in
-          let same : (view_of q).seen ≡ (view_of a.pass).seen = l.same.0 in
+          let same : (view_of q).seen ≡ (view_of a.pass).seen = l.seen in
           let rise : (tree_of places (entries_at (view_of q).seen)).places ≤ (tree_of places (entries_at (view_of q).seen ++ entries_at d.came.more.0)).places = places_more places (entries_at (view_of q).seen) (entries_at d.came.more.0) in
           let at : entries_at (view_of p).seen ≡ entries_at (view_of q).seen ++ entries_at d.came.more.0 = ap entries_at (sym d.came.more.1) ∙ entries_more (view_of q).seen d.came.more.0 in
           let before : (tree_of places (entries_at (view_of q).seen)).places ≡ (tree_of places (entries_at (view_of a.pass).seen)).places = ap (λ (h : List (Stamped EntryItem)). (tree_of places (entries_at h)).places) same in
@@ -287,11 +287,6 @@ came_back f before op (NoMemory q) added p o d h = subst (CameBack f op.pass) (s
 -- and is of the run
 pub back_of_run : (L : BookName LedgerFixed) (f : PlaceFixed) (q p : Pass EntryItem) → f.ledger ≡ L → CameBack f q p → IsOfRun L q → IsOfRun L p
 back_of_run L f q p of came run = record { word = came.word ∙ run.word; lawful = subst (λ (b : BookName LedgerFixed). LedgerIsLegal b.fixed (view_of p).seen) of came.lawful }
-
--- what holds where a result is no error
-pub ok_so : {T E P : Type 0} (r : Result T E) → is_err r ≡ false → OnOk r P → P
-ok_so (Ok x) e h = h
-ok_so (Err y) e h = absurd (let f : ⊥ = cc in f)
 
 -- the same call, said of equal objects and equal answers
 pub called_so : (place : EventItem → Option ℕ) (f f' : PlaceFixed) (v w : View EventItem) (op : PlaceOp) (r r' : PlaceReply) → f ≡ f' → r ≡ r' → Called place (PlaceDoes f) (PlaceIsLegal f) v op r w → Called place (PlaceDoes f') (PlaceIsLegal f') v op r' w

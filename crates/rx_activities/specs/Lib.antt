@@ -1,5 +1,4 @@
 pub mod Knowing
 pub mod Starting
-pub mod Kept
 pub mod Turning
 pub mod Inside

@@ -23,33 +23,32 @@ use Rattle.rx_parts.specs.declared.items.EntryItem.{EntryItem}
 use Rattle.rx_parts.specs.declared.items.EventItem.{EventItem}
 use Rattle.rx_parts.specs.Histories.{ledger_items}
 use Rattle.rx_objects.specs.declared.ledger.LedgerFixed.{LedgerFixed}
-use Rattle.rx_activities.specs.declared.hand.Journey.{Journey}
 use Rattle.rx_activities.specs.Knowing.{entries_seen, tree_seen, IsOfRun}
 
 -- by what was seen of the ledger the task is on its way to this place, and stands at its beginning
-pub record ComesSo (code : Block) (L : BookName LedgerFixed) (j : Journey) : Type 0 where
-  pub legal : LegalLedger code (given L.fixed.setup) (ledger_items (view_of j.pass).seen)
+pub record ComesSo (code : Block) (L : BookName LedgerFixed) (c : Control) (who : Caller) (p : Pass EntryItem) : Type 0 where
+  pub legal : LegalLedger code (given L.fixed.setup) (ledger_items (view_of p).seen)
   pub actor : Actor
-  pub stands : slice_get legal.actors j.ticket.task.0 ≡ Some actor
-  pub holder : actor.holder ≡ (view_of j.pass).number
+  pub stands : slice_get legal.actors who.task.0 ≡ Some actor
+  pub holder : actor.holder ≡ (view_of p).number
   pub away : actor.phase ≡ Away
-  pub place : actor.birth.to ≡ landing j.ticket.place
+  pub place : actor.birth.to ≡ landing who.place
   pub no_batch : actor.stand.batch ≡ []
   pub unnamed : actor.named ≡ []
-  pub term : StandsFor L.fixed.program.script j.control.value actor.stand.term
-  pub vars : j.control.value.vars ≡ actor.stand.vars
+  pub term : StandsFor L.fixed.program.script c actor.stand.term
+  pub vars : c.vars ≡ actor.stand.vars
   pub some : TermMakesSome actor.stand.term
-  pub known : actor.stand.vars.places ≤ (tree_seen L.fixed j.pass).places
+  pub known : actor.stand.vars.places ≤ (tree_seen L.fixed p).places
   pub unheld : Unheld actor.stand.term
   pub no_scope : NoScopeOpen actor.stand.term
-  pub bare : own_told (entries_seen j.pass) j.ticket.task ≡ []
-  pub serves : length (entries_seen j.pass) + 1 < 2 ^ 31 → MayAskArrive (tree_seen L.fixed j.pass) j.ticket
+  pub bare : own_told (entries_seen p) who.task ≡ []
+  pub serves : length (entries_seen p) + 1 < 2 ^ 31 → MayAskArrive (tree_seen L.fixed p) who
 
--- what is known of a task on its way, whatever statements the script stands for
-pub record TravellerInvariant (L : BookName LedgerFixed) (j : Journey) : Type 0 where
-  pub pass : IsOfRun L j.pass
-  pub inside : (landing j.ticket.place).0 < (tree_seen L.fixed j.pass).places
-  pub stands : (code : Block) → Stands L.fixed.program.script code → ComesSo code L j
+-- what is known of a task on its way with this control, ticket and pass, whatever statements the script stands for
+pub record TravellerInvariant (L : BookName LedgerFixed) (c : Control) (who : Caller) (p : Pass EntryItem) : Type 0 where
+  pub pass : IsOfRun L p
+  pub inside : (landing who.place).0 < (tree_seen L.fixed p).places
+  pub stands : (code : Block) → Stands L.fixed.program.script code → ComesSo code L c who p
 
 -- the control, the ticket and the passes of the main activity before the first entry
 pub record IsOpening (L : BookName LedgerFixed) (control : Control) (ticket : Caller) (pass : Pass EntryItem) (seat : Pass EventItem)

@@ -1,11 +1,12 @@
 // Activities, as queues and mailboxes hold them: what is known of one is known by its type.
-ghost use Rattle.std.specs.Prelude.{◌≡◌, ◌<◌};
+ghost use Rattle.std.specs.Prelude.{◌≡◌, IfOk};
 ghost use Rattle.rx_objects.specs.Opened.{PlaceIs};
 ghost use Rattle.rx_activities.specs.Knowing.{IsOfRun, ActivityInvariant};
-ghost use Rattle.rx_activities.specs.Starting.{IsOpening, TravellerInvariant};
+ghost use Rattle.rx_activities.specs.Starting.{IsOpening};
 
-use crate::hand::{Hand, Journey};
+use crate::hand::Hand;
 use crate::naming::{LedgerPass, Naming};
+use crate::traveller::Traveller;
 use crate::turn::{Company, make_turn};
 use rx_base::{PlaceId, ScopeId};
 use rx_book::Pass;
@@ -13,7 +14,7 @@ use rx_check::{Program, checked};
 use rx_control::Control;
 use rx_objects::{Hint, LedgerBook, PlaceBook};
 use rx_parts::{EntryItem, EventItem};
-use rx_ticket::{AnyTicket, Live, Ticket};
+use rx_ticket::{Live, Ticket};
 use std::alloc::Global;
 use std::marker::{Model, PhantomData};
 use std::sync::Wait;
@@ -21,39 +22,19 @@ use std::sync::Wait;
 /// An activity that is live. Contracts see its place. It may be moved to another thread. It has to be brought to its end, or given
 /// up.
 pub struct Activity<N: Naming> {
-    // In a block. Where there was no memory for that of the main activity, the pass that is left of it.
-    hand: Result<Box<Hand>, Pass<EntryItem>>,
+    hand: Box<Hand>,
     of: PhantomData<N>,
 }
 
 impl<N: Naming> Model for Activity<N> {
     ghost use Rattle.rx_base.specs.declared.ids.PlaceId.{PlaceId};
-    ghost use Rattle.rx_activities.specs.Kept.{place_kept, IsKept};
+    ghost use Rattle.rx_activities.specs.Knowing.{ActivityInvariant};
 
     ghost Value = { PlaceId };
 
-    ghost view = { λ a. place_kept a.hand };
+    ghost view = { λ a. a.hand.value.place };
 
-    ghost invariant = { λ a. IsKept N.ledger a.hand };
-}
-
-/// An activity on its way. Contracts see the place for which it is. It may be moved to another thread, and may be dropped.
-#[derive(Drop)]
-pub struct Traveller<N: Naming> {
-    pub(crate) journey: Journey,
-    of: PhantomData<N>,
-}
-
-impl<N: Naming> Model for Traveller<N> {
-    ghost use Rattle.rx_base.specs.declared.ids.PlaceId.{PlaceId};
-    ghost use Rattle.rx_finish.specs.Calls.{landing};
-    ghost use Rattle.rx_activities.specs.Starting.{TravellerInvariant};
-
-    ghost Value = { PlaceId };
-
-    ghost view = { λ t. landing t.journey.ticket.place };
-
-    ghost invariant = { λ t. TravellerInvariant N.ledger t.journey };
+    ghost invariant = { λ a. ActivityInvariant N.ledger a.hand.value };
 }
 
 /// An activity that was started.
@@ -83,7 +64,7 @@ pub enum Turn<N: Naming> {
 
 impl<N: Naming> Activity<N> {
     /// The main activity of a run, at place 0, by the first passes of the ledger's book and of the book of place 0. Where there is no
-    /// memory for its block, its first turn says so.
+    /// memory for its block it is given up.
     pub fn main(
         alloc: Global,
         p: &Program,
@@ -91,44 +72,33 @@ impl<N: Naming> Activity<N> {
         ticket: Ticket<Live>,
         pass: Pass<EntryItem>,
         seat: Pass<EventItem>,
-    ) -> Activity<N>
+    ) -> Result<Activity<N>, LedgerPass<N>>
         requires program { N.ledger.fixed.program ≡ p.now }
         requires opening { IsOpening N.ledger control.value ticket pass seat }
-        ensures { result ≡ record { 0 = 0 } }
+        ensures { IfOk result (λ a. a ≡ record { 0 = 0 }) }
     {
         checked(p);
         rx_objects::objects_open();
-        Activity {
-            hand: Hand::fresh(alloc, control, ticket, PlaceId(0), pass, seat).boxed(alloc),
-            of: PhantomData,
-        }
+        let hand = Hand::fresh(alloc, control, ticket, PlaceId(0), pass, seat);
+        activity_with(hand, alloc)
     }
 
     /// Its place.
     pub fn place(&self) -> PlaceId
         ensures { result ≡ self.now }
     {
-        match &self.hand {
-            Ok(hand) => hand.place,
-            Err(_) => PlaceId(0),
-        }
+        self.hand.place
     }
 
     /// Gives the activity up, and keeps what it has seen of the ledger. Its ticket is spent.
     pub fn give_up(self) -> LedgerPass<N> {
         let Activity { hand, of: _ } = self;
-        match hand {
-            Ok(hand) => given_up(hand),
-            Err(pass) => LedgerPass::of(pass),
-        }
+        given_up(hand)
     }
 
     /// The scope at which it waits, if it waits.
     pub fn waits_at(&self) -> Option<ScopeId> {
-        match &self.hand {
-            Ok(hand) => hand.waits_at(),
-            Err(_) => None,
-        }
+        self.hand.waits_at()
     }
 
     /// Makes the local steps up to the next call of a book, and that call: of the place's book or of the ledger's. A long turn tells
@@ -148,10 +118,7 @@ impl<N: Naming> Activity<N> {
         requires place { PlaceIs N.ledger self (P.name place_book.now) }
     {
         let Activity { hand, of: _ } = self;
-        match hand {
-            Ok(hand) => make_turn(hand, rt, alloc, p, ledger, place_book, company, hint),
-            Err(pass) => Turn::Failed(LedgerPass::of(pass)),
-        }
+        make_turn(hand, rt, alloc, p, ledger, place_book, company, hint)
     }
 }
 
@@ -162,20 +129,13 @@ pub(crate) fn given_up<N: Naming>(hand: Box<Hand>) -> LedgerPass<N>
     LedgerPass::of(Box::into_inner(hand).give_up())
 }
 
-/// What an activity leaves for which there was no memory: its ticket is spent, and its pass is kept.
-pub(crate) fn failed<N: Naming>(ticket: AnyTicket, pass: Pass<EntryItem>) -> LedgerPass<N>
-    requires { IsOfRun N.ledger pass }
-{
-    ticket.spent();
-    LedgerPass::of(pass)
-}
-
 /// The activity that holds this, in a block. Where there is no memory for the block it is given up.
 pub(crate) fn activity_with<N: Naming>(
     hand: Hand,
     alloc: Global,
 ) -> Result<Activity<N>, LedgerPass<N>>
     requires { ActivityInvariant N.ledger hand }
+    ensures { IfOk result (λ a. a ≡ hand.place) }
 {
     match hand.boxed(alloc) {
         Ok(hand) => Ok(activity_of(hand)),
@@ -189,17 +149,7 @@ pub(crate) fn activity_of<N: Naming>(hand: Box<Hand>) -> Activity<N>
     ensures { result ≡ hand.value.place }
 {
     Activity {
-        hand: Ok(hand),
-        of: PhantomData,
-    }
-}
-
-/// The traveller with this.
-pub(crate) fn traveller_of<N: Naming>(journey: Journey) -> Traveller<N>
-    requires { TravellerInvariant N.ledger journey }
-{
-    Traveller {
-        journey,
+        hand,
         of: PhantomData,
     }
 }

@@ -7,7 +7,7 @@ use rx_base::{Batch, PlaceId, ScopeId};
 use rx_book::Pass;
 use rx_control::Control;
 use rx_parts::{EntryItem, EventItem};
-use rx_ticket::{AnyTicket, InTransit, Live, Ticket};
+use rx_ticket::{AnyTicket, Live, Ticket};
 use std::alloc::{AllocFailed, Global};
 use std::snapshot::Snapshot;
 
@@ -26,14 +26,6 @@ pub struct Hand {
     pub seat: Pass<EventItem>,
     /// That pass when its entry before was made. It has no bytes.
     pub told: Snapshot<Pass<EventItem>>,
-}
-
-/// What an activity holds that is on its way.
-#[derive(Drop)]
-pub struct Journey {
-    pub control: Box<Control>,
-    pub ticket: Ticket<InTransit>,
-    pub pass: Pass<EntryItem>,
 }
 
 impl Hand {

@@ -7,13 +7,14 @@
 mod activity;
 mod asking;
 mod hand;
-mod landing;
 mod naming;
 mod replies;
 mod steps;
 mod store;
+mod traveller;
 mod turn;
 
-pub use activity::{Activity, Began, Traveller, Turn};
+pub use activity::{Activity, Began, Turn};
 pub use naming::{LedgerPass, Naming};
+pub use traveller::Traveller;
 pub use turn::Company;

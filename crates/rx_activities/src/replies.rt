@@ -1,13 +1,14 @@
-// How an activity goes on by the ledger's answer.
+// What a call of a book leaves, and how an activity goes on by the ledger's answer.
 ghost use Rattle.std.specs.Prelude.{◌≡◌};
 ghost use Rattle.rx_book.specs.Passes.{view_of, word_of};
 ghost use Rattle.rx_activities.specs.Turning.{LeavesHand};
 ghost use Rattle.rx_activities.specs.Inside.Sending.{WasSent, WasGranted, WasCounted};
 ghost use Rattle.rx_activities.specs.Inside.Births.{IsStarted, StartsKnowing, IsWith};
 
-use crate::activity::{Began, activity_with, traveller_of};
-use crate::hand::{Hand, Journey};
+use crate::activity::{Began, activity_with};
+use crate::hand::Hand;
 use crate::naming::Naming;
+use crate::traveller::traveller_of;
 use rx_base::{Batch, Faults, NoMemory, PlaceId};
 use rx_book::Pass;
 use rx_check::{Program, checked};
@@ -19,7 +20,7 @@ use rx_ticket::AnyTicket;
 use std::alloc::Global;
 use std::snapshot::Snapshot;
 
-/// What a request to the ledger leaves, beside the hand.
+/// What a call of a book leaves, beside the hand.
 pub enum Answer<N: Naming> {
     /// The activity goes on, and may have started another.
     Goes { began: Option<Began<N>> },
@@ -257,14 +258,7 @@ fn begin<N: Naming>(
     requires { StartsKnowing N.ledger place ticket control.value pass seat }
 {
     match (ticket, seat) {
-        (AnyTicket::Moving(ticket), _) => {
-            let journey = Journey {
-                control,
-                ticket,
-                pass,
-            };
-            Ok(Began::Away(traveller_of(journey)))
-        }
+        (AnyTicket::Moving(ticket), _) => Ok(Began::Away(traveller_of(control, ticket, pass))),
         (AnyTicket::Running(ticket), Some(seat)) => {
             let hand = Hand::fresh(alloc, control, ticket, place, pass, seat);
             match activity_with(hand, alloc) {

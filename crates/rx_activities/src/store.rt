@@ -4,18 +4,20 @@ ghost use Rattle.rx_base.specs.Sets.{has_bit};
 ghost use Rattle.rx_rules.specs.Terms.{Term, begins};
 ghost use Rattle.rx_history.specs.declared.step.Next.{Next as Step};
 ghost use Rattle.rx_control.specs.Stands.{StandsFor};
+ghost use Rattle.rx_book.specs.Kept.{parent_left};
 ghost use Rattle.rx_book.specs.Passes.{view_of, word_of};
 ghost use Rattle.rx_book.specs.Calls.{Looked};
 ghost use Rattle.rx_finish.specs.declared.ledger.Caller.{Caller as Asker};
 ghost use Rattle.rx_ledger.specs.Answering.{asker};
 ghost use Rattle.rx_objects.specs.Opened.{PlaceIs};
 ghost use Rattle.rx_activities.specs.Knowing.{ActivityInvariant};
+ghost use Rattle.rx_activities.specs.Turning.{LeavesHand};
 ghost use Rattle.rx_activities.specs.Inside.Stepping.{IsNext};
 ghost use Rattle.rx_activities.specs.Inside.Answered.{PartsAre};
 
-use crate::activity::{Turn, activity_with, failed};
 use crate::hand::Hand;
-use crate::naming::{LedgerPass, Naming};
+use crate::naming::Naming;
+use crate::replies::Answer;
 use rx_base::{Batch, Fault, NoMemory, Path, PlaceId, Value};
 use rx_book::Pass;
 use rx_check::{Program, checked};
@@ -90,72 +92,60 @@ fn parts_of(reply: PlaceReply) -> (Pass<EntryItem>, Option<Result<Option<Value>,
     }
 }
 
+// Takes the pass out, which a store call brings back. Another of the ledger's book lies in its place meanwhile.
+fn take_pass<L: LedgerBook>(ledger: &L, pass: &mut Pass<EntryItem>) -> Pass<EntryItem>
+    requires own { word_of pass.old ≡ (L.name ledger.now).word }
+    ensures own { word_of result ≡ word_of pass.old }
+    ensures view { view_of result ≡ parent_left (view_of pass.old) }
+{
+    match ledger.split(pass) {
+        Ok(other) => std::mem::replace(pass, other),
+        Err(_) => unreachable!(),
+    }
+}
+
 impl Hand {
-    /// Makes the store call that is next. An activity whose place has died makes none, and is lost.
+    /// Makes the store call that is next. An activity whose place has died makes none, and is over.
     pub(crate) fn call_store<N: Naming, L: LedgerBook, P: PlaceBook, R: Wait>(
-        self,
+        &mut self,
         rt: &R,
         alloc: Global,
         p: &Program,
         ledger: &L,
         place_book: &P,
         op: CellOp,
-    ) -> Turn<N>
-        requires ledger { L.name ledger.now ≡ N.ledger }
+    ) -> Answer<N>
         requires program { (L.name ledger.now).fixed.program ≡ p.now }
-        requires place { PlaceIs (L.name ledger.now) self.place (P.name place_book.now) }
-        requires known { ActivityInvariant (L.name ledger.now) self }
-        requires next { IsNext p.now self (Step.Cell op) }
+        requires place { PlaceIs (L.name ledger.now) self.old.place (P.name place_book.now) }
+        requires known { ActivityInvariant (L.name ledger.now) self.old }
+        requires next { IsNext p.now self.old (Step.Cell op) }
+        ensures { LeavesHand (L.name ledger.now) self.new result }
     {
         checked(p);
         rx_runs::terms_sink();
         place_op_fits();
-        let Hand {
-            mut control,
-            mut batch,
-            ticket,
-            place,
-            made: _,
-            mut pass,
-            mut seat,
-            told,
-        } = self;
-        let Some(stamp) = stamp_for(ledger, &mut pass, place) else {
-            ticket.lost(place, 0);
-            return Turn::Over(LedgerPass::of(pass));
+        let Some(stamp) = stamp_for(ledger, &mut self.pass, self.place) else {
+            return Answer::Over;
         };
-        let Ok(path) = begin_call(alloc, p, control.as_ref(), &mut batch) else {
-            return Turn::Failed(failed(ticket, pass));
+        let Ok(path) = begin_call(alloc, p, self.control.as_ref(), &mut self.batch) else {
+            return Answer::Failed;
         };
         let mark = Mark {
-            task: caller_of(&ticket).task,
+            task: caller_of(&self.ticket).task,
             stamp,
             path,
         };
-        let reply = place_book.call(rt, &mut seat, PlaceOp { mark, op, pass });
+        let pass = take_pass(ledger, &mut self.pass);
+        let reply = place_book.call(rt, &mut self.seat, PlaceOp { mark, op, pass });
         let (pass, answer) = parts_of(reply);
+        self.pass = pass;
+        self.made = true;
         let Some(answer) = answer else {
-            return Turn::Failed(failed(ticket, pass));
+            return Answer::Failed;
         };
-        if control.as_mut().cell_done(alloc, p, answer).is_err() {
-            return Turn::Failed(failed(ticket, pass));
-        }
-        let hand = Hand {
-            control,
-            batch,
-            ticket,
-            place,
-            made: true,
-            pass,
-            seat,
-            told,
-        };
-        match activity_with(hand, alloc) {
-            Ok(activity) => Turn::Goes {
-                activity,
-                began: None,
-            },
-            Err(pass) => Turn::Failed(pass),
+        match self.control.as_mut().cell_done(alloc, p, answer) {
+            Ok(()) => Answer::Goes { began: None },
+            Err(_) => Answer::Failed,
         }
     }
 }

@@ -68,21 +68,21 @@ pub(crate) fn make_turn<N: Naming, L: LedgerBook, P: PlaceBook, C: Company, R: W
     match next {
         Next::Cell(op) => {
             company.is_away();
-            let hand = Box::into_inner(hand);
-            hand.call_store(rt, alloc, p, ledger, place_book, op)
+            let answer = hand.call_store(rt, alloc, p, ledger, place_book, op);
+            turn_of(hand, answer)
         }
         other => {
             if pace.gives_way(ledger) {
                 return Turn::Busy(activity_of(hand));
             }
             let answer = hand.call_ledger(rt, alloc, p, ledger, place_book, other, hint);
-            turn_of_request(hand, answer)
+            turn_of(hand, answer)
         }
     }
 }
 
-// What a request leaves, as it may be kept.
-fn turn_of_request<N: Naming>(hand: Box<Hand>, answer: Answer<N>) -> Turn<N>
+// What a call of a book leaves, as it may be kept.
+fn turn_of<N: Naming>(hand: Box<Hand>, answer: Answer<N>) -> Turn<N>
     requires { LeavesHand N.ledger hand.value answer }
 {
     match answer {

@@ -35,7 +35,7 @@ use rx_objects::{
     open_ledger, open_words,
 };
 use rx_parts::{EntryItem, EventItem};
-use rx_stations::{Hall, Worker, work};
+use rx_stations::{Hall, Worker, abandon_all, work};
 use rx_store::Store;
 use rx_ticket::{Live, Ticket};
 use std::alloc::{AllocError, Global};
@@ -230,7 +230,10 @@ fn run_named<'a, N: Naming + Send + Sync, G: Gate + Sync, R: Threads + Wait + Sy
         first,
     } = places;
     let Some(first) = first else { unreachable!() };
-    let activity = Activity::<N>::main(alloc, p, control, ticket, pass, first);
+    let Ok(activity) = Activity::<N>::main(alloc, p, control, ticket, pass, first) else {
+        abandon_all(rt, stations);
+        return None;
+    };
     let hall = Hall::open(p, ledger, stations);
     hall.put(rt, activity);
     run_all(rt, alloc, hall, gate, workers, host, seats, looker)

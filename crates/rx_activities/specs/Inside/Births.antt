@@ -1,6 +1,5 @@
 -- What a task that was started has at its beginning.
 use Rattle.std.specs.Prelude.{◌≡◌, ℕ, false, List, [], Option, Some, None}
-use Rattle.std.specs.Global.{Box}
 use Rattle.rx_base.specs.declared.ids.PlaceId.{PlaceId}
 use Rattle.rx_control.specs.declared.control.Control.{Control}
 use Rattle.rx_finish.specs.declared.ledger.Caller.{Caller}
@@ -41,8 +40,7 @@ StaysWith L place who c pass (Some seat) = (hand : Hand) → IsWith c place pass
 
 -- the same of any task that starts with these, at its starter's place or on its way
 abbrev pub StartsKnowing : BookName LedgerFixed → PlaceId → AnyTicket → Control → Pass EntryItem → Option (Pass EventItem) → Type 0
-StartsKnowing L place (Moving who) c pass seat = (control : Box Control) → control.value ≡ c
-    → TravellerInvariant L (record { control = control; ticket = who; pass = pass })
+StartsKnowing L place (Moving who) c pass seat = TravellerInvariant L c who pass
 StartsKnowing L place (Running who) c pass seat = StaysWith L place who c pass seat
 StartsKnowing L place (Held who) c pass seat = ⊥
 StartsKnowing L place Host c pass seat = ⊥

@@ -3,7 +3,7 @@ use Rattle.std.proofs.Common.{◌≡◌, ◌≢◌, ◌+◌, ◌<◌, ◌≤◌,
 use Rattle.std.proofs.lemmas.Bool.{eqb-true, eq-eqb, ne_eqb}
 use Rattle.std.proofs.lemmas.Option.{same_Some}
 use mathlib.Core.List.{IsPrefix}
-use Rattle.rx_rules.proofs.Common.{PlaceId, TaskId, ScopeId, Block, place_number, AllowedAct, tree_of, Cells, started_by, Folds, does, child, Tree}
+use Rattle.rx_rules.proofs.Common.{PlaceId, TaskId, ScopeId, Block, place_number, AllowedAct, tree_of, Cells, started_by, Folds, does, Tree}
 use Rattle.rx_rules.specs.declared.entries.Act.{Act}
 use Rattle.rx_rules.specs.declared.entries.Entry.{Entry}
 use Rattle.rx_rules.specs.declared.entries.Entry.TheVariants.{Step}

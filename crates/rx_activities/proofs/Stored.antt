@@ -22,7 +22,7 @@ use Rattle.rx_book.specs.declared.passes.Pass.{Pass}
 use Rattle.rx_book.specs.History.{items_of, stamped, stamp_all, entries_by}
 use Rattle.rx_book.specs.Passes.{view_of, word_of}
 use Rattle.rx_book.specs.Named.{BookName}
-use Rattle.rx_book.specs.Calls.{BeginsWithSeen, Called, Looked}
+use Rattle.rx_book.specs.Calls.{BeginsWithSeen, Called}
 use Rattle.rx_book.proofs.History.{entries_by-append}
 use Rattle.rx_base.proofs.Prefixes.{prefix-self}
 use Rattle.rx_ledger.proofs.StaysGood.{places_more}

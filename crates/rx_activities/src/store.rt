@@ -125,6 +125,7 @@ impl Hand {
         rx_runs::terms_sink();
         place_op_fits();
         let Some(stamp) = stamp_for(ledger, &mut self.pass, self.place) else {
+            std::mem::replace(&mut self.ticket, AnyTicket::Host).lost(self.place, 0);
             return Answer::Over;
         };
         let Ok(path) = begin_call(alloc, p, self.control.as_ref(), &mut self.batch) else {

@@ -7,7 +7,7 @@ use Rattle.rx_base.specs.declared.lists.Numbers.TheVariants.{Few, Many}
 -- the numbers in their order
 abbrev pub listed : Numbers → List ℕ
 listed (Few len few) = take len few
-listed (Many many) = many.value.items
+listed (Many many) = many.value
 
 -- what stands in the value itself are at most seven
 abbrev pub IsShort : Numbers → Type 0

@@ -9,6 +9,7 @@ mod failures;
 mod gate;
 mod ids;
 mod lists;
+mod long;
 mod memory;
 mod outside;
 mod place_set;

@@ -128,7 +128,7 @@ pub(crate) fn run_with<G: Gate + Sync, R: Threads + Wait + Sync>(
         pass,
         words,
     };
-    let done = run_named::<Brand, G, R>(
+    let done = run_named::<Brand, Book<LedgerObject>, G, R>(
         rt, alloc, p, workers, gate, setup.heap, &book, &mut host, main, looker,
     );
     let Some(Ends { stores, looked }) = done else {
@@ -190,21 +190,27 @@ struct Ends {
 }
 
 // The run between the opening and the closing of the ledger's book. `None` means out of memory.
-fn run_named<'a, N: Naming + Send + Sync, G: Gate + Sync, R: Threads + Wait + Sync>(
+fn run_named<
+    'a,
+    N: Naming + Send + Sync,
+    L: LedgerBook + Sync,
+    G: Gate + Sync,
+    R: Threads + Wait + Sync,
+>(
     rt: &R,
     alloc: Global,
     p: &'a Program,
     workers: u32,
     gate: &'a G,
     heap: u32,
-    ledger: &'a Book<LedgerObject>,
+    ledger: &'a L,
     host: &mut Pass<EntryItem>,
     main: Main,
     looker: Option<Looker>,
 ) -> Option<Ends>
     requires workers { workers ≤ 8 }
-    requires ledger { ledger.now ≡ N.ledger }
-    requires program { ledger.now.fixed.program ≡ p.now }
+    requires ledger { L.name ledger.now ≡ N.ledger }
+    requires program { (L.name ledger.now).fixed.program ≡ p.now }
     requires proper { Proper (given N.ledger.fixed.setup) }
     requires heap { heap ≡ N.ledger.fixed.setup.heap }
     requires host { MayRelease N.ledger host.old × ((view_of host.old).seen ≡ []) × ((view_of host.old).dead ≡ 0) }
@@ -219,7 +225,7 @@ fn run_named<'a, N: Naming + Send + Sync, G: Gate + Sync, R: Threads + Wait + Sy
         pass,
         words,
     } = main;
-    let opened = open_places::<N, G, R>(rt, alloc, ledger, host, words, heap, gate);
+    let opened = open_places::<N, L, G, R>(rt, alloc, ledger, host, words, heap, gate);
     let Some(places) = opened else {
         ticket.spent();
         return None;
@@ -366,16 +372,36 @@ fn go_on_alone<'a, N: Naming, L: LedgerBook, P: PlaceBook, R: Wait>(
     ensures told { IfSome result (λ e. RootIsTold N.ledger.fixed e.notes.items (view_of host.new).seen) }
 {
     let mut worker = Worker::open(rt, alloc, hall, 0)?;
+    let notes = until_released(rt, alloc, hall, &mut worker, host, &seats[0])?;
+    let own = worker.into_kept();
+    Some(Ended { notes, own })
+}
+
+// The worker works, and the host asks for the root's release, until that is answered: the notes that came with it. `None` means out of
+// memory.
+fn until_released<'a, N: Naming, L: LedgerBook, P: PlaceBook, R: Wait>(
+    rt: &R,
+    alloc: Global,
+    hall: &Hall<'a, N, L, P>,
+    worker: &mut Worker<N>,
+    host: &mut Pass<EntryItem>,
+    seat: &Pass<EventItem>,
+) -> Option<Vec<(PlaceId, Note<EventItem>)>>
+    requires hall { IsHall N.ledger (L.name hall.now.ledger.now) hall.now.program.now hall.now.stations.items }
+    requires some { 0 < length hall.now.stations.items }
+    requires keys { worker.old ≡ hall.now.stations.items }
+    requires host { MayRelease N.ledger host.old }
+    ensures own { word_of host.new ≡ N.ledger.word }
+    ensures lawful { LedgerIsLegal N.ledger.fixed (view_of host.new).seen }
+    ensures told { IfSome result (λ notes. RootIsTold N.ledger.fixed notes.items (view_of host.new).seen) }
+{
     for _request in rt.forever() {
         worker.work(rt, alloc, hall, &NoGate);
         if hall.is_refused() {
             return None;
         }
-        match release(rt, alloc, hall.program, hall.ledger, host, &seats[0]) {
-            Released::Done(notes) => {
-                let own = worker.into_kept();
-                return Some(Ended { notes, own });
-            }
+        match release(rt, alloc, hall.program, hall.ledger, host, seat) {
+            Released::Done(notes) => return Some(notes),
             Released::NotYet => thread::yield_now(),
             Released::NoMemory => return None,
         }

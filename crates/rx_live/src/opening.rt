@@ -10,7 +10,7 @@ ghost use Rattle.rx_live.specs.Inside.Ending.{SeatsFrom, ArePlacesWith};
 use rx_activities::Naming;
 use rx_base::{Gate, PlaceId};
 use rx_book::{BareBook, Book, Pass};
-use rx_objects::{LedgerAndGate, LedgerObject, PlaceBook, PlaceObject, open_place};
+use rx_objects::{LedgerAndGate, LedgerBook, PlaceBook, PlaceObject, open_place};
 use rx_parts::{EntryItem, EventItem};
 use rx_stations::{Station, abandon_all};
 use std::alloc::Global;
@@ -25,16 +25,16 @@ pub(crate) struct Places<N: Naming, P: PlaceBook> {
 }
 
 /// Opens the places over their words. `None` means out of memory.
-pub(crate) fn open_places<'a, N: Naming, G: Gate, R: Wait>(
+pub(crate) fn open_places<'a, N: Naming, L: LedgerBook, G: Gate, R: Wait>(
     rt: &R,
     alloc: Global,
-    ledger: &'a Book<LedgerObject>,
+    ledger: &'a L,
     host: &mut Pass<EntryItem>,
     words: Vec<BareBook<EventItem>>,
     heap: u32,
     gate: &'a G,
-) -> Option<Places<N, Book<PlaceObject<LedgerAndGate<'a, G>>>>>
-    requires ledger { ledger.now ≡ N.ledger }
+) -> Option<Places<N, Book<PlaceObject<LedgerAndGate<'a, L, G>>>>>
+    requires ledger { L.name ledger.now ≡ N.ledger }
     requires own { word_of host.old ≡ N.ledger.word }
     requires unseen { ((view_of host.old).seen ≡ []) × ((view_of host.old).dead ≡ 0) }
     requires proper { Proper (given N.ledger.fixed.setup) }

@@ -7,7 +7,6 @@ use Rattle.std.proofs.Crossing.{crosses}
 use Rattle.std.proofs.alloc.Global.TheSendSync as heap
 use Rattle.std.proofs.option.Option.TheSendSync as option
 use Rattle.rx_base.proofs.ids.PlaceId.TheSendSync as place
-use Rattle.rx_book.proofs.books.Book.TheSendSync as book
 use Rattle.rx_book.proofs.passes.Note.TheSendSync as note
 use Rattle.rx_ledger.proofs.asks.Request.TheSendSync as request
 use Rattle.rx_ledger.proofs.keeper.Keeper.TheSendSync as keeper
@@ -31,5 +30,5 @@ ledger_object_send = search (keeper.the_send, counts.the_send, place.the_field_s
 pub place_object_send : (S : RattleType) (g : Ghosts S.Denot) → IsSend S → IsSend (PlaceObject.the_row S g)
 place_object_send S g s = search (place.the_field_send, store.the_send, option.the_field_send, note.the_send, trail.crosses, crosses, sendable) depth 60 fits 20000
 
-pub ledger_and_gate_send : (a : NamedLft) (G : RattleType) → IsSync G → IsSend (LedgerAndGate.the_row a G)
-ledger_and_gate_send a G y = search (book.the_sync, ledger_object_send, crosses, sendable) depth 60 fits 20000
+pub ledger_and_gate_send : (a : NamedLft) (L G : RattleType) → IsSync L → IsSync G → IsSend (LedgerAndGate.the_row a L G)
+ledger_and_gate_send a L G x y = search (crosses, sendable) depth 60 fits 20000

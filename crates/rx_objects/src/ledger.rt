@@ -60,6 +60,21 @@ pub struct LedgerFixed {
     pub board: Option<BoardName>,
 }
 
+/// Which ledger's book it is: its word, and what is fixed of its object. No value of it is made.
+pub struct LedgerName {
+    pub word: BareBook<EntryItem>,
+    pub fixed: LedgerFixed,
+}
+
+impl Model for LedgerName {
+    ghost use Rattle.rx_book.specs.Named.{BookName};
+    ghost use Rattle.rx_objects.specs.declared.ledger.LedgerFixed.{LedgerFixed};
+
+    ghost Value = { BookName LedgerFixed };
+
+    ghost view = { λ n. record { word = n.word; fixed = n.fixed } };
+}
+
 /// The keeper with the notes that it keeps until the root's release, and the board on which it shows a summary of its entries after
 /// each call that appends some. It can't be dropped, as its board can't.
 pub struct LedgerObject {

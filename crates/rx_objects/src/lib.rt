@@ -29,7 +29,7 @@ pub use laws::{
     noted_are_named, objects_open, others_spare_tickets, place_op_fits, places_end,
     stamps_before_death,
 };
-pub use ledger::{LedgerCall, LedgerFixed, LedgerObject, LedgerOp, LedgerReply};
+pub use ledger::{LedgerCall, LedgerFixed, LedgerName, LedgerObject, LedgerOp, LedgerReply};
 pub use ledger_book::LedgerBook;
 pub use mentions::Mentions;
 pub use opening::{open_ledger, open_place, open_words};

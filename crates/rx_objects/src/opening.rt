@@ -11,6 +11,7 @@ ghost use Rattle.rx_objects.specs.Opened.{IsPlaceBook, IsFirst};
 
 use crate::laws::objects_open;
 use crate::ledger::LedgerObject;
+use crate::ledger_book::LedgerBook;
 use crate::place::PlaceObject;
 use crate::showing::end_board;
 use crate::surroundings::LedgerAndGate;
@@ -78,23 +79,23 @@ pub fn open_ledger<R: Wait>(
 }
 
 /// The book of a place over its word, and the pass of its first caller. `None` means out of memory.
-pub fn open_place<'a, G: Gate>(
+pub fn open_place<'a, L: LedgerBook, G: Gate>(
     alloc: Global,
-    ledger: &'a Book<LedgerObject>,
+    ledger: &'a L,
     host: &mut Pass<EntryItem>,
     word: BareBook<EventItem>,
     place: PlaceId,
     heap: u32,
     gate: &'a G,
-) -> Option<(Book<PlaceObject<LedgerAndGate<'a, G>>>, Pass<EventItem>)>
-    requires own { word_of host.old ≡ ledger.now.word }
+) -> Option<(Book<PlaceObject<LedgerAndGate<'a, L, G>>>, Pass<EventItem>)>
+    requires own { word_of host.old ≡ (L.name ledger.now).word }
     requires unseen { ((view_of host.old).seen ≡ []) × ((view_of host.old).dead ≡ 0) }
-    requires proper { Proper (given ledger.now.fixed.setup) }
-    requires heap { heap ≡ ledger.now.fixed.setup.heap }
-    requires word { slice_get ledger.now.fixed.places place.0 ≡ Some word }
+    requires proper { Proper (given (L.name ledger.now).fixed.setup) }
+    requires heap { heap ≡ (L.name ledger.now).fixed.setup.heap }
+    requires word { slice_get (L.name ledger.now).fixed.places place.0 ≡ Some word }
     ensures same { (word_of host.new ≡ word_of host.old) × (view_of host.new ≡ view_of host.old) }
-    ensures book { IfSome result (λ t. IsPlaceBook ledger.now place t.0) }
-    ensures first { IfSome result (λ t. IsFirst ledger.now place.0 t.1) }
+    ensures book { IfSome result (λ t. IsPlaceBook (L.name ledger.now) place t.0) }
+    ensures first { IfSome result (λ t. IsFirst (L.name ledger.now) place.0 t.1) }
 {
     objects_open();
     let Ok(store) = Store::open(alloc, place, heap) else {

@@ -2,16 +2,15 @@
 ghost use Rattle.std.specs.Prelude.{◌≡◌, ◌<◌, ◌^◌, ◌++◌, ◌∷◌, [], false, true, length, List};
 ghost use Rattle.rx_base.specs.Sets.{has_bit};
 ghost use Rattle.rx_rules.specs.declared.events.PlaceEvent.{PlaceEvent as Event};
-ghost use Rattle.rx_book.specs.Passes.{view_of, word_of, note_view, note_word, IsAsSeen};
-ghost use Rattle.rx_book.specs.Calls.{Met};
+ghost use Rattle.rx_book.specs.Passes.{note_view, note_word};
 ghost use Rattle.rx_objects.specs.Ledger.{LedgerIsLegal};
-ghost use Rattle.rx_objects.specs.Place.{shown, PlaceKeeps};
+ghost use Rattle.rx_objects.specs.Place.{PlaceKeeps};
 
-use crate::ledger::LedgerObject;
+use crate::ledger::LedgerName;
 use crate::surroundings::Surroundings;
 use crate::trail::Trail;
 use rx_base::{Fault, PlaceId, PlaceSet, Value};
-use rx_book::{Book, Note, Object, Pass};
+use rx_book::{Note, Object, Pass};
 use rx_control::CellOp;
 use rx_parts::{EntryItem, EventItem};
 use rx_rules::PlaceEvent;
@@ -52,7 +51,7 @@ pub struct PlaceCall {
 pub struct PlaceFixed {
     pub place: PlaceId,
     pub words: u32,
-    pub ledger: Book<LedgerObject>,
+    pub ledger: LedgerName,
 }
 
 /// A place. The note is None only after the place has failed.
@@ -78,25 +77,6 @@ impl<S: Surroundings> Model for PlaceObject<S> {
     } };
 
     ghost invariant = { λ s. PlaceKeeps s.place s.store (S.ledger s.surroundings) s.note (events_called s.calls) };
-}
-
-// The pass meets the note, and a new note is made of what it has seen then.
-fn exchange(
-    ledger: &Book<LedgerObject>,
-    pass: &mut Pass<EntryItem>,
-    note: Note<EntryItem>,
-) -> Note<EntryItem>
-    requires own { word_of pass.old ≡ ledger.now.word }
-    requires note { note_word note ≡ ledger.now.word }
-    ensures own { (word_of pass.new ≡ ledger.now.word) × (note_word result ≡ ledger.now.word) }
-    ensures met { Met shown (view_of pass.old) (note_view note) (view_of pass.new) }
-    ensures seen { IsAsSeen (view_of pass.new) (note_view result) }
-{
-    ledger.meet(pass, note);
-    match ledger.note(pass) {
-        Ok(note) => note,
-        Err(_) => unreachable!(),
-    }
 }
 
 // Room for one event more, where the journal may grow.
@@ -176,7 +156,7 @@ impl<S: Surroundings> Object for PlaceObject<S> {
         let Some(note) = self.note.take() else {
             return PlaceReply::NoMemory { pass };
         };
-        let note = exchange(self.surroundings.book(), &mut pass, note);
+        let note = self.surroundings.exchange(&mut pass, note);
         if !has_room(&mut self.store) {
             return PlaceReply::NoMemory { pass };
         }

@@ -208,7 +208,7 @@ fn open_place<'a>(
     gate: &'a NoGate,
 ) -> Result<
     (
-        Book<PlaceObject<LedgerAndGate<'a, NoGate>>>,
+        Book<PlaceObject<LedgerAndGate<'a, Book<LedgerObject>, NoGate>>>,
         Pass<EventItem>,
     ),
     NoMemory,

@@ -36,15 +36,15 @@ fn place_calls_move() {
 }
 
 fn place_object_moves<'a, G: Gate + Sync>(_gate: &'a G) {
-    may_move::<PlaceObject<LedgerAndGate<'a, G>>>();
+    may_move::<PlaceObject<LedgerAndGate<'a, Book<LedgerObject>, G>>>();
 }
 
 fn place_book_is_shared<'a, G: Gate + Sync>(_gate: &'a G) {
-    may_share::<Book<PlaceObject<LedgerAndGate<'a, G>>>>();
+    may_share::<Book<PlaceObject<LedgerAndGate<'a, Book<LedgerObject>, G>>>>();
 }
 
 fn place_books_are_shared<'a, G: Gate + Sync>(_gate: &'a G) {
-    may_share::<Vec<Book<PlaceObject<LedgerAndGate<'a, G>>>>>();
+    may_share::<Vec<Book<PlaceObject<LedgerAndGate<'a, Book<LedgerObject>, G>>>>>();
 }
 
 fn activities_move<N: Naming + Send>() {

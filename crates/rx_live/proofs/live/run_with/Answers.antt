@@ -1,7 +1,14 @@
+use denote.Param.Send.{sendable}
+use Rattle.std.proofs.Crossing.{crosses}
 use Rattle.rx_counts.specs.Stands.{StandsFor}
 use Rattle.rx_history.specs.Events.{events_of}
+use Rattle.rx_book.proofs.books.Book.TheSendSync as books
+use Rattle.rx_objects.proofs.Crosses.{ledger_object_send}
 use Rattle.rx_live.proofs.Whole.{proper_so, host_born, is_main, few_stores, shut_so, run_so, stands_so, shows_so}
 use Rattle.rx_live.proofs.live.run_with.Goals as goal
+
+pub run_named-done-requires-sync-L : goal.run_named-done-requires-sync-L
+run_named-done-requires-sync-L g c κs within = search (books.the_sync, ledger_object_send, crosses, sendable) depth 60 fits 20000
 
 pub run_named-done-requires-clause-host : goal.run_named-done-requires-clause-host
 run_named-done-requires-clause-host g c κs within =

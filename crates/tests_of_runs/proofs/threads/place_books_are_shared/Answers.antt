@@ -1,8 +1,8 @@
 use denote.Param.Send.{sendable}
 use Rattle.std.proofs.Crossing.{crosses}
 use Rattle.rx_book.proofs.books.Book.TheSendSync as book
-use Rattle.rx_objects.proofs.Crosses.{ledger_and_gate_send, place_object_send}
+use Rattle.rx_objects.proofs.Crosses.{ledger_object_send, ledger_and_gate_send, place_object_send}
 use Rattle.tests_of_runs.proofs.threads.place_books_are_shared.Goals as goal
 
 pub may_share-requires-sync-T : goal.may_share-requires-sync-T
-may_share-requires-sync-T g c κs within = search (book.the_sync, place_object_send, ledger_and_gate_send, crosses, sendable) depth 60 fits 20000
+may_share-requires-sync-T g c κs within = search (book.the_sync, place_object_send, ledger_and_gate_send, ledger_object_send, crosses, sendable) depth 60 fits 20000

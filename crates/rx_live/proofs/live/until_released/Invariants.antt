@@ -1,6 +1,6 @@
 use Rattle.std.proofs.Common.{◌≡◌}
 use Rattle.rx_live.specs.Inside.Ending.{MayRelease}
-use Rattle.rx_live.proofs.live.go_on_alone.Given as goal
+use Rattle.rx_live.proofs.live.until_released.Given as goal
 
 abbrev pub invariant-loop-request : goal.invariant-loop-request
 invariant-loop-request g l =

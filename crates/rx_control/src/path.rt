@@ -1,6 +1,6 @@
 // The path of the statement at the front.
-ghost use Rattle.std.specs.Prelude.{◌≡◌, ◌≢◌, ◌↔◌, ℕ, List, []};
-ghost use Rattle.std.specs.Prelude.{◌∷◌, ◌++◌, IsTrue, IfOk, OnOk, MatchOption, option_to_list};
+ghost use Rattle.std.specs.Prelude.{◌≡◌, ◌≢◌, ◌≤◌, ◌↔◌, ℕ, List, []};
+ghost use Rattle.std.specs.Prelude.{◌∷◌, ◌++◌, length, take, IsTrue, IfOk, OnOk, IfSome, MatchOption, option_to_list};
 ghost use Rattle.rx_rules.specs.Terms.{at};
 ghost use Rattle.rx_control.specs.declared.frame.Frame.{Frame};
 ghost use Rattle.rx_control.specs.Stands.{numbers, path_of};
@@ -24,7 +24,19 @@ pub(crate) fn front_path(
     if n == 0 {
         return Ok(Path::open(alloc));
     }
-    whole_path(alloc, base, &frames[..n - 1], part, next)
+    // Most paths have few numbers: these are gathered first, and the path is made of them at once.
+    let mut short = [0; 7];
+    let mut room = [0; 14];
+    match gather(
+        &mut room,
+        base.numbers(&mut short),
+        &frames[..n - 1],
+        part,
+        next,
+    ) {
+        Some(len) => Path::from_slice(alloc, &room[..len]),
+        None => long_path(alloc, base, &frames[..n - 1], part, next),
+    }
 }
 
 /// Whether a path is that of a statement in the block of the innermost frame. No memory is taken.
@@ -118,8 +130,73 @@ fn behind_number(path: &[u32], number: u32) -> Option<&[u32]>
     }
 }
 
-// The base, what each frame adds, and where a statement stands in the block of the next frame.
-fn whole_path(
+// Writes the base, what each frame adds, and where a statement stands in the block of the next frame: how many numbers these are, and
+// None where there is no room for them.
+fn gather(
+    room: &mut [u32],
+    base: &[u32],
+    frames: &[Frame],
+    part: Option<u32>,
+    next: u32,
+) -> Option<usize>
+    ensures { IfSome result (λ n. (n ≤ length room.new)
+        × (take n room.new ≡ at (path_of base.now frames.now ++ option_to_list part) next)) }
+{
+    let mut len = write_base(room, base)?;
+    for frame in frames {
+        len = write_numbers(room, len, frame)?;
+    }
+    write(room, len, part, next)
+}
+
+// Writes the base: how many numbers it has, and None where there is no room for them.
+fn write_base(room: &mut [u32], base: &[u32]) -> Option<usize>
+    ensures { IfSome result (λ n. take n room.new ≡ base.now) }
+{
+    let mut len = 0;
+    for number in base {
+        len = write_number(room, len, *number)?;
+    }
+    Some(len)
+}
+
+// Writes what a frame adds behind so many numbers: how many there are then, and None where there is no room.
+fn write_numbers(room: &mut [u32], len: usize, frame: &Frame) -> Option<usize>
+    ensures { IfSome result (λ n. take n room.new ≡ take len room.old ++ numbers frame.now) }
+{
+    match frame {
+        Frame::Seq { next, part, .. } => write(room, len, *part, next.saturating_sub(1)),
+        Frame::Turns { .. } | Frame::Try { .. } | Frame::Body | Frame::Held => Some(len),
+    }
+}
+
+// Writes the number between the path of a statement and the positions in its block, where there is one, and a position.
+fn write(room: &mut [u32], len: usize, part: Option<u32>, position: u32) -> Option<usize>
+    ensures { IfSome result (λ n. (n ≤ length room.new)
+        × (take n room.new ≡ take len room.old ++ option_to_list part ++ position ∷ [])) }
+{
+    match part {
+        Some(number) => {
+            let len = write_number(room, len, number)?;
+            write_number(room, len, position)
+        }
+        None => write_number(room, len, position),
+    }
+}
+
+// Writes a number behind so many: how many there are then, and None where there is no room.
+fn write_number(room: &mut [u32], len: usize, number: u32) -> Option<usize>
+    ensures { IfSome result (λ n. (n ≤ length room.new) × (take n room.new ≡ take len room.old ++ number ∷ [])) }
+{
+    if room.len() <= len {
+        return None;
+    }
+    room[len] = number;
+    Some(len + 1)
+}
+
+// The same path, where its numbers may be many.
+fn long_path(
     alloc: Global,
     base: &Path,
     frames: &[Frame],

@@ -1,5 +1,5 @@
 -- The births, homes and entries of tasks, and the places, after one entry more.
-use Rattle.std.proofs.Common.{◌≡◌, ◌≢◌, ◌⊎◌, ℕ, suc, ◌+◌, ◌<◌, ◌≤◌, List, [], ◌∷◌, ◌++◌, length, Option, Some, None, refl, ap, sym, subst, ◌∙◌, arith, ⊎_elim}
+use Rattle.std.proofs.Common.{◌≡◌, ◌≢◌, ℕ, suc, ◌+◌, ◌<◌, ◌≤◌, List, [], ◌∷◌, ◌++◌, length, Option, Some, None, refl, ap, sym, subst, ◌∙◌, arith, ⊎_elim}
 use Rattle.std.proofs.lemmas.List.Sums.{sum_by-cons}
 use Rattle.rx_rules.proofs.Common.{TaskId, Block, AllowedAct, made, made_act, AllAllowed, opening, tree_of, births, births_of, Birth, Moves, birth_in, birth_of, moves_from, started_by, Given, Tree}
 use Rattle.rx_base.proofs.Elements.{get-within}

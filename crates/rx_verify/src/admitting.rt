@@ -299,8 +299,7 @@ fn take_seat(slots: &mut Vec<Slot>, task: TaskId) -> Box<Seat>
 {
     match std::mem::replace(&mut slots[task.0 as usize], Slot::Over) {
         Slot::Away(seat) => seat,
-        Slot::Here(_) => unreachable!(),
-        Slot::Over => unreachable!(),
+        Slot::Here(_) | Slot::Over => unreachable!(),
     }
 }
 

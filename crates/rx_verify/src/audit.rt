@@ -60,20 +60,14 @@ impl<L: FinishLedger> Audit<L> {
     fn is_due(&self, due: Due) -> bool
         ensures { IsTrue result ↔ IsDue self.now.count (entry_of due) self.now.plan }
     {
-        match self.plan.due(self.count) {
-            Some(first) => first == due,
-            None => false,
-        }
+        self.plan.due(self.count) == Some(due)
     }
 
     // Whether nothing is due.
     fn none_due(&self) -> bool
         ensures { IsTrue result ↔ NoneDue self.now.count self.now.plan }
     {
-        match self.plan.due(self.count) {
-            Some(_) => false,
-            None => true,
-        }
+        self.plan.due(self.count).is_none()
     }
 
     /// Makes a death or a join, where it is due. After a no, or where memory ran out, here and below, the audit is of no more use.

@@ -88,15 +88,10 @@ fn who_after(mut who: Caller, act: &Act, parents: &[ScopeId]) -> Caller
     ensures { result ≡ who_after parents.now act.now who }
 {
     match act {
-        Act::Open { scope, .. } => who.inner = *scope,
-        Act::At { scope, .. } => who.inner = *scope,
-        Act::Spawn { .. } => {}
+        Act::Open { scope, .. } | Act::At { scope, .. } => who.inner = *scope,
         Act::Arrive { place } => who.place = Where::At(*place),
-        Act::Wait { .. } => {}
         Act::Release { scope, .. } => who.inner = parent_of(parents, *scope),
-        Act::End { .. } => {}
-        Act::Print { .. } => {}
-        Act::Census { .. } => {}
+        _ => {}
     }
     who
 }
@@ -125,15 +120,14 @@ fn answer(control: &mut Control, alloc: Global, p: &Program, act: &Act) -> Resul
         Act::At { path, .. } => pass(control, alloc, p, path),
         Act::Spawn { path, .. } => pass(control, alloc, p, path),
         Act::Print { path, .. } => pass(control, alloc, p, path),
-        Act::Census { places, path } => count(control, alloc, p, *places, path),
+        Act::Census { places, path } => count(control, p, *places, path),
         Act::Wait { thrown, .. } => wait(control, alloc, p, thrown),
         Act::Release { lost, thrown, .. } => {
             let faults = faults_raised(alloc, *lost, thrown)?;
             resume(control, p, faults)?;
             Ok(true)
         }
-        Act::Arrive { .. } => Ok(false),
-        Act::End { .. } => Ok(false),
+        Act::Arrive { .. } | Act::End { .. } => Ok(false),
     }
 }
 
@@ -151,13 +145,7 @@ fn pass(control: &mut Control, alloc: Global, p: &Program, path: &Path) -> Resul
 }
 
 /// Tells a control that asked with this path the number of places.
-fn count(
-    control: &mut Control,
-    alloc: Global,
-    p: &Program,
-    places: u8,
-    path: &Path,
-) -> Result<bool, NoMemory>
+fn count(control: &mut Control, p: &Program, places: u8, path: &Path) -> Result<bool, NoMemory>
     requires asks { (t : Term) × (here : PlaceId) × StandsFor p.now.script control.old t
         × (next_of (does control.old.vars here.0 t) ≡ Next.Book Want.Census) }
     requires counts { (1 ≤ places) × (places ≤ 16) × (control.old.vars.places ≤ places) }

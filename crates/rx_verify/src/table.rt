@@ -99,10 +99,9 @@ impl Row {
     fn first(&self, task: usize) -> usize
         ensures { result ≡ slice_index_or self.now.first.items task (length self.now.next.items) }
     {
-        if task < self.first.len() {
-            self.first[task] as usize
-        } else {
-            self.next.len()
+        match self.first.get(task) {
+            Some(at) => *at as usize,
+            None => self.next.len(),
         }
     }
 
@@ -110,10 +109,9 @@ impl Row {
     fn after(&self, at: usize) -> usize
         ensures { result ≡ slice_index_or self.now.next.items at (length self.now.next.items) }
     {
-        if at < self.next.len() {
-            self.next[at] as usize
-        } else {
-            self.next.len()
+        match self.next.get(at) {
+            Some(next) => *next as usize,
+            None => self.next.len(),
         }
     }
 }

@@ -8,7 +8,7 @@ import socket
 import subprocess
 import sys
 import threading
-from typing import Any, Callable, Dict, List, Optional, Sequence
+from typing import Any, Callable, Dict, List, Optional, Sequence, Set
 
 from . import calls, program, wire
 from .calls import Calls
@@ -25,7 +25,7 @@ class Runtime(Calls):
     """A job. `with` it: the thread that enters is the main task, at place 0. The end waits for what no finish waited for, and ends all places."""
 
     def __init__(self, engine: Engine, places: int, threads: int = 1, backlog: int = BACKLOG, record: Optional[str] = None,
-                 log: Optional[str] = None) -> None:
+                 log: Optional[str] = None, silent: Optional[float] = None) -> None:
         """Takes the options that all engines have.
 
         Args:
@@ -33,6 +33,8 @@ class Runtime(Calls):
             threads: tasks of a place that run at a time; one that waits does not count.
             backlog: bytes of messages that may wait for a place that does not read. One that is further behind is ended, and a warning
                 of the logger `rx10` says so.
+            silent: seconds. A place that gives no sign of life for so long is ended, and a warning says so. None: it is only warned of,
+                after 15 seconds.
             record: a file for the hub's requests to the coordinator and the replies. `python -m rx10.trace` makes a trace of it.
             log: a file for the job's history, which the coordinator writes entry by entry. It is new, or has no bytes.
         """
@@ -40,12 +42,16 @@ class Runtime(Calls):
             raise ValueError("a job has one place at least")
         if threads < 1:
             raise ValueError("a place runs one task at a time at least")
+        if silent is not None and not silent > 0:
+            raise ValueError(f"silent={silent!r}: a time of more than no seconds, or None")
         command = [program.find().path, "--places", "1", *(["--log", os.path.abspath(log)] if log else [])]
         self._settings: Dict[str, Any] = {
-            "command": command, "places": places, "threads": threads, "backlog": backlog, "python": VERSION, "record": record}
+            "command": command, "places": places, "threads": threads, "backlog": backlog, "python": VERSION, "record": record,
+            "silent": silent}
         self._engine = engine
         self._tags: Dict[int, Any] = {}
         self._joined = threading.Condition()                    # over `_tags`
+        self._silent: Set[int] = set()                          # places that give no sign of life
         self._hub: Optional[subprocess.Popen] = None
         self._listener = threading.Thread(target=self._listen, name="rx10 place 0", daemon=True)
 
@@ -98,10 +104,10 @@ class Runtime(Calls):
             body = [] if fault is None else leaves(fault)
             with self._place.guard():
                 self._place.tell("end", 0, [None] * len(body), None)
-                lost, masked, thrown, _ = self._place.wait_for_release(self._main, body, "root")
+                how = self._place.wait_for_release(self._main, body, "root")
             graceful = True
-            if lost or len(thrown) > len(body):
-                raise outcome("the job", lost, masked, thrown) from fault
+            if how.lost or len(how.thrown) > len(body):
+                raise outcome("the job", how.lost, how.masked, how.thrown) from fault
         finally:
             calls.closed(self)
             self._close(graceful)
@@ -174,9 +180,25 @@ class Runtime(Calls):
         import logging
         logging.getLogger("rx10").warning("place %d is ended: it does not read, and %d bytes wait for it", place, waiting)
 
+    def _on_silent(self, place: Optional[int], seconds: float, is_ended: bool) -> None:
+        import logging
+        if place is None:
+            logging.getLogger("rx10").warning("the coordinator has not answered for %g s", seconds)
+        elif is_ended:
+            logging.getLogger("rx10").warning("place %d is ended: it gave no sign of life for %g s", place, seconds)
+        else:
+            self._silent.add(place)
+            logging.getLogger("rx10").warning("place %d gave no sign of life for %g s: it is stopped, cut off, or holds the interpreter's lock",
+                                              place, seconds)
+
+    def _on_sign(self, place: Optional[int]) -> None:
+        import logging
+        self._silent.discard(place)
+        logging.getLogger("rx10").info("%s again", "the coordinator answers" if place is None else f"place {place} gives signs of life")
+
     _FROM_HUB: Dict[str, Callable[..., None]] = {
         "start": lambda self, joiner: self._engine.add(joiner), "ended": lambda self, tag: self._engine.ended(tag),
-        "joined": _on_joined, "behind": _on_behind}
+        "joined": _on_joined, "behind": _on_behind, "silent": _on_silent, "sign": _on_sign}
 
     def _tell_hub(self, *message: Any, files: Sequence[int] = ()) -> None:
         try:

@@ -14,21 +14,48 @@ RECEIVE = 1 << 18               # bytes that are read at once
 GATHER = 1 << 16                # small messages are sent together up to this many bytes
 
 
-class Peer:
-    """A place's line, and where the engine has it the file that tells the end of its process."""
+class Process:
+    """A place's process, by the file that tells its end."""
 
-    def __init__(self, sock: socket.socket, pidfd: Optional[int] = None, tag: Any = None, joiner: Optional[int] = None) -> None:
+    def __init__(self, file: int) -> None:
+        self._file = file
+
+    def fileno(self) -> int:
+        """A file that is readable once the process has ended."""
+        return self._file
+
+    def kill(self) -> None:
+        """Ends the process. Its end is told by the file."""
+        try:
+            signal.pidfd_send_signal(self._file, signal.SIGKILL)
+        except ProcessLookupError:
+            pass
+
+    def close(self) -> None:
+        """Closes the file."""
+        os.close(self._file)
+
+
+class Peer:
+    """A place's line, and its process where the engine has that."""
+
+    def __init__(self, sock: socket.socket, process: Optional[Process] = None, tag: Any = None, joiner: Optional[int] = None) -> None:
         sock.setblocking(False)
         self.sock: Optional[socket.socket] = sock               # None once the line was hung up
-        self.pidfd, self.tag, self.joiner = pidfd, tag, joiner
+        self.process, self.tag, self.joiner = process, tag, joiner
         self.place: Optional[int] = None                        # once it has a number
         self.was_ready = False
+        self.is_ended = False                                   # the hub has ended it, and nothing more is sent to it
+        self.asked, self.heard = float("-inf"), float("-inf")   # when it was asked for a sign of life last, and gave one
+        self.is_silent = False                                  # the driver was told so
         self.unsent = 0                                         # bytes that wait to be sent
         self._frames = Frames()
         self._out: Deque[memoryview] = collections.deque()
 
     def put(self, message: tuple) -> None:
-        """Keeps a message until it can be sent."""
+        """Keeps a message until it can be sent. Drops it where the place has been ended."""
+        if self.is_ended or self.sock is None:
+            return
         data = frame(message)
         self.unsent += len(data)
         self._out.append(memoryview(data))
@@ -93,20 +120,19 @@ class Peer:
         self.unsent = 0
 
     def hang_up(self) -> None:
-        """Closes the line, and kills the place's process where its file is here."""
+        """Closes the line, and kills the place's process where it is known."""
         if self.sock is not None:
             self.sock.close()
             self.sock = None
         self.kill()
-        if self.pidfd is not None:
-            os.close(self.pidfd)
-            self.pidfd = None
+        if self.process is not None:
+            self.process.close()
+            self.process = None
         self.forget()
 
     def kill(self) -> None:
-        """Kills the place's process where its file is here. Its end is read from the line."""
-        if self.pidfd is not None:
-            try:
-                signal.pidfd_send_signal(self.pidfd, signal.SIGKILL)
-            except ProcessLookupError:
-                pass
+        """Kills the place's process where it is known, and sends nothing more."""
+        self.is_ended = True
+        self.forget()
+        if self.process is not None:
+            self.process.kill()

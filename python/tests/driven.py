@@ -55,8 +55,12 @@ class World:
         self.tasks, self.awake = {0: self.main}, []             # all, and those that may do something if they do not wait
         self.begin(self.main)
         self.wish, self.counts = rng.randrange(5, 60), collections.Counter()
+        self.greeting = f"coordinator 1 places 1 most {MOST} line {rng.choice([LINE, 64])} main t0"
+        self.start_job(places)
+
+    def start_job(self, places):
         self.core = Core(self, Options(places, 1))
-        self.core.greet(f"coordinator 1 places 1 most {MOST} line {rng.choice([LINE, 64])} main t0")
+        self.core.greet(self.greeting)
         while len(self.core.seats) < places:
             if self.newcomers:
                 self.arrive(self.newcomers[0])
@@ -134,16 +138,20 @@ class World:
     def answer(self):
         """The coordinator answers a line, or one of its lines comes."""
         if self.requests and (not self.replies or self.rng.random() < 0.5):
-            line = self.requests.popleft()
-            self.replies.extend(self.model.ask(line))
-            if line.startswith("end") and self.replies[-1] != "bad":
-                self.granted.append(self.core.numbers[int(line.split()[1][1:])].key)
-            self.story.append(line)
-            self.counts["bad"] += self.replies[-1] == "bad"
+            self.replies.extend(self.replies_to(self.requests.popleft()))
         elif self.replies:
             line = self.replies.popleft()
             self.story.append("    " + line)
             self.core.reply(line)
+
+    def replies_to(self, line):
+        """What the coordinator answers."""
+        replies = self.model.ask(line)
+        if line.startswith("end") and replies[0] == "ended":
+            self.granted.append(self.core.numbers[int(line.split()[1][1:])].key)
+        self.story.append(line)
+        self.counts["bad"] += replies[0] == "bad"
+        return replies
 
     def arrive(self, newcomer):
         """A new place is ready, and its line may end at once."""
@@ -193,6 +201,10 @@ class World:
             assert all(begun >= done + lost for begun, done, lost in rest[2].values()), rest
             self.tallies[rest[1]] = rest[2]
 
+    def is_known(self, _task):
+        """Whether that it was started came to the core. Here what was sent comes."""
+        return True
+
     def note_end(self, opener, key, how, what):
         """How a task ended. It stands in the order of the releases."""
         opener, ended = self.tasks[opener], self.tasks[key]
@@ -217,7 +229,7 @@ class World:
         for it in under:
             assert it.ended or it.place in self.gone or it.origin in self.gone and not it.ran, f"scope {scope} is over, task {it.key:x} runs"
         direct = [it for it in under if it.under[0] == scope]
-        sure = {it.place for it in direct if it.ran and not it.ended and it.place in self.gone}
+        sure = {it.place for it in direct if it.ran and not it.ended and it.place in self.gone and self.is_known(it)}
         may = {place for it in under for place in (it.place, it.origin) if place in self.gone}
         assert sure <= set(lost) <= may, f"scope {scope} names {lost}: surely {sure}, perhaps {may}"
         assert lost == sorted(lost) and (lost or not masked), f"scope {scope} masks {masked} and names {lost}"
@@ -238,8 +250,11 @@ class World:
 
     # What a task does.
 
+    def say(self, place, *message):
+        self.core.receive(place, [message])
+
     def tell(self, task, kind, *rest):
-        self.core.receive(task.place, [(kind, task.key, *rest)])
+        self.say(task.place, kind, task.key, *rest)
 
     def chain(self, task):
         return [*reversed(task.own), *task.under]
@@ -283,7 +298,7 @@ class World:
             task.joins = True
             self.tell(task, "join")
         elif may_start and chance < 0.75:
-            self.core.receive(task.place, [("kill", self.rng.randrange(len(self.core.seats)))])
+            self.say(task.place, "kill", self.rng.randrange(len(self.core.seats)))
         elif task.own:
             task.waits, task.body = task.own[-1], self.rng.choice([0, 0, 1, 5])
             self.tell(task, "wait", task.body)
@@ -295,7 +310,7 @@ class World:
             self.end(task)
             task.waits, task.body = 0, self.rng.choice([0, 0, 1, 5])
             self.tell(task, "end", [None] * task.body, None)
-            self.core.receive(0, [("root",)])
+            self.say(0, "root")
 
     def limit_of(self, scope):
         if self.rng.random() < 0.1:
@@ -316,6 +331,10 @@ class World:
             self.answer()                                       # `arrive` of those that were struck on their way
         while self.mail[0]:
             self.read_mail(0)
+        self.check_end()
+
+    def check_end(self):
+        """What holds once a job is over."""
         for task in self.tasks.values():
             assert task.ended or {task.place, task.origin} & self.gone, f"task {task.key:x} was forgotten"
         assert not self.core.kept() and not self.alarms, f"the core keeps {self.core.kept()}, alarms {self.alarms}"

@@ -3,8 +3,8 @@
 One rule: **the loop sleeps only if nothing can be taken, nothing is unsent, nothing is unread.**
 
 - Nothing can be taken: each first message of a place speaks of a task whose number is due from the coordinator (`Core.can_take`).
-- Nothing is unsent: a place's line that has room was given all that waits, and else the selector tells when it has room. A batch went to
-  the coordinator, unless the replies to the one before are due.
+- Nothing is unsent: each turn ends with sending. A place's line that has room was given all that waits, and else the selector tells when it
+  has room. A batch went to the coordinator, unless the replies to the one before are due.
 - Nothing is unread: the selector has all lines, the ends of processes, the driver's control, and the coordinator's replies. What is left
   unread in one of them wakes it at once.
 
@@ -144,7 +144,7 @@ class Hub:
         clock = self.system.clock()
         self.now += min(clock - self.clocked, self.slept + LATE)
         self.clocked = clock
-        self.slept = 0.0 if self.core.can_take or self.coordinator.may_send or self.unsent else self.timers.sleep(self.now)
+        self.slept = 0.0 if self.core.can_take else self.timers.sleep(self.now)
 
     def read_replies(self) -> None:
         for line in self.coordinator.read():

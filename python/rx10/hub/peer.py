@@ -50,7 +50,8 @@ class Peer:
         self.is_silent = False                                  # the driver was told so
         self.unsent = 0                                         # bytes that wait to be sent
         self._frames = Frames()
-        self._out: Deque[memoryview] = collections.deque()
+        self._out: Deque[memoryview] = collections.deque()      # what waits, some of it gathered
+        self._sizes: Deque[int] = collections.deque()           # by message how much of it waits
 
     def put(self, message: tuple) -> None:
         """Keeps a message until it can be sent. Drops it where the place has been ended."""
@@ -59,10 +60,11 @@ class Peer:
         data = frame(message)
         self.unsent += len(data)
         self._out.append(memoryview(data))
+        self._sizes.append(len(data))
 
     def is_behind(self, most: int) -> bool:
         """Whether more than so many bytes wait, one message of any size apart."""
-        return self.unsent > most and len(self._out) > 1
+        return self.unsent > most and len(self._sizes) > 1
 
     def read(self) -> Optional[List[tuple]]:
         """The messages that have come. None at the end of the line, and BlockingIOError where nothing has come."""
@@ -113,10 +115,17 @@ class Peer:
             self._out[0] = self._out[0][count:]
         else:
             self._out.popleft()
+        while count:
+            part = min(count, self._sizes[0])
+            count -= part
+            self._sizes[0] -= part
+            if not self._sizes[0]:
+                self._sizes.popleft()
 
     def forget(self) -> None:
         """Drops what waits."""
         self._out.clear()
+        self._sizes.clear()
         self.unsent = 0
 
     def hang_up(self) -> None:

@@ -34,6 +34,7 @@ from .timers import Timer, Timers
 PROGRESS = 0.2                  # seconds between two tellings of how far a watched finish is
 ASK = 5.0                       # seconds between two questions for a sign of life
 SILENT = 15.0                   # seconds without one after which the driver is told
+LARGE = 1 << 25                 # bytes that have waited for a place, after which the memory is given back
 LATE = 0.5                      # seconds that a turn may take longer than it slept: what is above was no time in which the hub looked
 NOT_STARTED = ("a place ended while it started. If it says above that the main module has no guard, put what starts the job under "
                "`if __name__ == \"__main__\":`")
@@ -70,6 +71,13 @@ class System:
     def line(self, file: int) -> socket.socket:
         """A place's line."""
         return socket.socket(fileno=file)
+
+    def give_back(self) -> None:
+        """Gives memory that is free back to the system. The C library keeps much of what it had for messages that lay side by side."""
+        import ctypes                                           # few jobs need it
+        trim = getattr(ctypes.CDLL(None), "malloc_trim", None)
+        if trim is not None:
+            trim(0)
 
     def process(self, file: int) -> Process:
         """A place's process."""
@@ -186,15 +194,23 @@ class Hub:
             self.to_driver("silent", peer.place, limit, True)
             self.end_place(peer.place)
             return
-        if (silence >= SILENT) != peer.is_silent:
-            peer.is_silent = not peer.is_silent
-            self.core.note_sign(peer.place, peer.is_silent)
-            self.to_driver(*(("silent", peer.place, SILENT, False) if peer.is_silent else ("sign", peer.place)))
+        if silence >= SILENT and not peer.is_silent:
+            peer.is_silent = True
+            self.core.note_sign(peer.place, True)
+            self.to_driver("silent", peer.place, SILENT, False)
         if not silence:
             self.send(peer.place, ("ping",))
             peer.asked = self.now
         moments = [peer.asked + most for most in (SILENT, limit) if most is not None and silence < most]
         self.timers.at(min([self.now + self.ask_every, *moments]), partial(self.look_at, peer))
+
+    def gives_sign(self, peer: Peer) -> None:
+        """Something came from a place, or it reads."""
+        peer.heard = self.now
+        if peer.is_silent:
+            peer.is_silent = False
+            self.core.note_sign(peer.place, False)
+            self.to_driver("sign", peer.place)
 
     # The driver's engine.
 
@@ -247,7 +263,7 @@ class Hub:
         if messages is None:
             self.hang_up(peer)
             return False
-        peer.heard = self.now
+        self.gives_sign(peer)
         if messages and not peer.was_ready:
             self.check_ready(peer, *messages.pop(0)[1:])
         if messages and peer.place is not None:
@@ -291,8 +307,8 @@ class Hub:
 
     def has_room(self, peer: Peer) -> None:
         """Its line has room. It reads, where there was none."""
-        peer.heard = self.now
         if peer.sock is not None:
+            self.gives_sign(peer)
             self.unsent[peer] = None
 
     def flush(self) -> None:
@@ -302,6 +318,9 @@ class Hub:
             if peer.sock is None:
                 continue
             peer.flush()
+            if not peer.unsent and peer.most_unsent > LARGE:
+                peer.most_unsent = 0
+                self.system.give_back()
             if peer.place and peer.is_behind(self.settings.backlog):
                 self.to_driver("behind", peer.place, peer.unsent)
                 self.end_place(peer.place)

@@ -48,7 +48,7 @@ class Peer:
         self.is_ended = False                                   # the hub has ended it, and nothing more is sent to it
         self.asked, self.heard = float("-inf"), float("-inf")   # when it was asked for a sign of life last, and gave one
         self.is_silent = False                                  # the driver was told so
-        self.unsent = 0                                         # bytes that wait to be sent
+        self.unsent = self.most_unsent = 0                      # bytes that wait to be sent, and the most that did since memory was given back
         self._frames = Frames()
         self._out: Deque[memoryview] = collections.deque()      # what waits, some of it gathered
         self._sizes: Deque[int] = collections.deque()           # by message how much of it waits
@@ -59,6 +59,7 @@ class Peer:
             return
         data = frame(message)
         self.unsent += len(data)
+        self.most_unsent = max(self.unsent, self.most_unsent)
         self._out.append(memoryview(data))
         self._sizes.append(len(data))
 

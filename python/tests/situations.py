@@ -466,7 +466,7 @@ def driver_killed_and_its_child_lives():
         with rt.finish() as f:
             f.spawn(1, nap, LIMIT)
             time.sleep(0.1)
-            others = [rt.where(1), rt.where(2), rt._hub.pid]
+            others = [rt.where(1).process, rt.where(2).process, rt._hub.pid]
             if os.fork() == 0:
                 wait_until(lambda: not any(map(is_alive, others)))
                 print("none is left", flush=True)

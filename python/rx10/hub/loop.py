@@ -13,7 +13,7 @@ import time
 from typing import Any, Callable, Deque, Dict, List, NamedTuple, Optional, Set, TextIO
 
 from ..errors import Closed, CoordinatorLost
-from ..wire import Frames, frame
+from ..wire import Frames, frame, is_silent
 from .coordinator import Coordinator
 from .core import Core, Options
 from .peer import Peer
@@ -122,12 +122,16 @@ class Hub:
         for kind, *rest in self.control_frames.feed(data):
             self._CONTROL[kind](self, *rest)
 
-    def on_connected(self, tag: Any, joiner: Optional[int], files: int) -> None:
-        """A place has its line: the first file that came along. The second one, if there is one, tells the end of its process."""
+    def on_connected(self, tag: Any, joiner: Optional[int], files: int, key: Optional[bytes]) -> None:
+        """A place has its line: the first file that came along. The second one, if there is one, tells the end of its process; where the line
+        is sealed it is the place's life."""
         sock = socket.socket(fileno=self.files.popleft())
-        peer = Peer(sock, self.files.popleft() if files > 1 else None, tag, joiner)
+        second = self.files.popleft() if files > 1 else None
+        peer = Peer(sock, second, tag, joiner) if key is None else Peer(sock, None, tag, joiner, key, socket.socket(fileno=second))
         self.coming.add(peer)
         self.selector.register(sock, selectors.EVENT_READ, lambda: self.read(peer))
+        if peer.life is not None:
+            self.selector.register(peer.life, selectors.EVENT_READ, lambda: self.read_life(peer))
         if peer.pidfd is not None:
             self.selector.register(peer.pidfd, selectors.EVENT_READ, lambda: self.read_to_the_end(peer))
 
@@ -179,6 +183,17 @@ class Hub:
             pass
         self.hang_up(peer)
 
+    def read_life(self, peer: Peer) -> None:
+        """The place's machine is silent, or the place has hung up: then its line tells that itself, after all that was sent on it."""
+        if peer.life is None:
+            return
+        silent = is_silent(peer.life)
+        if silent:
+            self.read_to_the_end(peer)
+        elif silent is False:
+            self.selector.unregister(peer.life)
+            peer.bury()
+
     def hang_up(self, peer: Peer) -> None:
         """Nothing more is read from this line, and the death is told after all that came before. Where the process is known it is killed
         first, so that what is told dead is dead."""
@@ -189,6 +204,8 @@ class Hub:
         self.selector.unregister(peer.sock)
         if peer.pidfd is not None:
             self.selector.unregister(peer.pidfd)
+        if peer.life is not None:
+            self.selector.unregister(peer.life)
         peer.hang_up()
         self.to_driver("ended", peer.tag)
         if peer.place is not None:
@@ -227,7 +244,7 @@ class Hub:
         newcomer.place = place
         self.coming.discard(newcomer)
         self.peers[place] = newcomer
-        self.to_driver("joined", place, newcomer.tag)
+        self.to_driver("joined", place, newcomer.tag, newcomer.joiner)
         return newcomer.sock is not None
 
     def turn_away(self, newcomer: Peer, why: str) -> None:
@@ -237,8 +254,8 @@ class Hub:
             newcomer.flush_at_last(2)
             self.hang_up(newcomer)
 
-    def start_place(self, joiner: Optional[int]) -> None:
-        self.to_driver("start", joiner)
+    def start_place(self, joiner: Optional[int], wait: Optional[float] = None) -> None:
+        self.to_driver("start", joiner, wait)
 
     def end_place(self, place: int) -> None:
         peer = self.peers[place]

@@ -80,7 +80,7 @@ def nobody_comes(wait):
     with raises(ConnectionRefusedError):
         socket.create_connection(address)
     with raises(rx10.Closed):
-        rt.at(1, same, 1)
+        rt.join()
 
 
 @patiently
@@ -122,6 +122,7 @@ def a_local_place_hangs_while_it_starts(wait):
         return begun[-1]
     rt._engine._start = start_and_stop
     said = opened(rt)
+    assert len(begun) == 2, begun
     assert "1 of 2 places came, and 1 are missing; processes that said nothing: " + str(begun[1]) == said.partition(": ")[2], said
     assert not any(map(is_alive, begun))
 
@@ -289,9 +290,10 @@ def a_job_that_fails():
 
 @situation
 def a_place_told_dead():
-    with rx10.launched(places=2) as rt:
-        process = place(rt.address)
-        rt.kill(1) if rt.places() == (0, 1) else None
+    rt = rx10.launched(places=2)
+    process = place(rt.address)
+    with rt:
+        rt.kill(1)
         status, said = ended(process)
     assert status == 9 and "the line to the driver ended" in said, (status, said)
 

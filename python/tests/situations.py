@@ -216,8 +216,8 @@ def stopped_place_is_told_of():
             os.kill(rt.where(1), signal.SIGSTOP)
             with rt.finish(progress=True) as f:
                 tasks = [f.spawn(1, same, 1), f.spawn(2, compute_until_it_is_there, __file__ + ".nowhere", 20)]
-                threading.Thread(target=go_on_when_said, args=("no sign of life from 1", rt.where(1))).start()
-            assert [it.result() for it in tasks] == [1, None] and rt.at(1, same, 3) == 3
+                threading.Thread(target=go_on_when_said, args=("no sign of life from 1", rt)).start()
+            assert [it.result() for it in tasks] == [1, None] and rt.at(1, same, 3) == 3 and not rt.where(1).silent
         assert len(said) == 1 and said[0].startswith("place 1 gave no sign of life for 15 s"), said
         last = sys.stderr.getvalue().rstrip().split("\r")[-1]
         assert last.startswith("done 2, running 0, lost 0") and "sign" not in last, last
@@ -225,9 +225,9 @@ def stopped_place_is_told_of():
         sys.stderr = stderr
 
 
-def go_on_when_said(text, process):
-    wait_until(lambda: text in sys.stderr.getvalue())
-    os.kill(process, signal.SIGCONT)
+def go_on_when_said(text, rt):
+    wait_until(lambda: text in sys.stderr.getvalue() and rt.where(1).silent and not rt.where(2).silent)
+    os.kill(rt.where(1), signal.SIGCONT)
 
 
 def compute_until_it_is_there(path, seconds):
@@ -556,7 +556,7 @@ def driver_killed_and_its_child_lives():
         with rt.finish() as f:
             f.spawn(1, nap, LIMIT)
             time.sleep(0.1)
-            others = [rt.where(1), rt.where(2), rt._hub.pid]
+            others = [rt.where(1).process, rt.where(2).process, rt._hub.pid]
             if os.fork() == 0:
                 wait_until(lambda: not any(map(is_alive, others)))
                 print("none is left", flush=True)

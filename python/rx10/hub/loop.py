@@ -25,7 +25,7 @@ from functools import partial
 from typing import Any, Callable, Deque, Dict, List, NamedTuple, Optional, Set, TextIO, Tuple
 
 from ..errors import Closed, CoordinatorLost
-from ..wire import Frames, frame
+from ..wire import Frames, frame, is_silent
 from .coordinator import Coordinator, Pipes, Program
 from .core import Core, Options
 from .peer import Peer, Process
@@ -228,12 +228,19 @@ class Hub:
         for kind, *rest in self.control_frames.feed(data):
             self._CONTROL[kind](self, *rest)
 
-    def on_connected(self, tag: Any, joiner: Optional[int], files: int) -> None:
-        """A place has its line: the first file that came along. The second one, if there is one, tells the end of its process."""
+    def on_connected(self, tag: Any, joiner: Optional[int], files: int, key: Optional[bytes]) -> None:
+        """A place has its line: the first file that came along. The second one, if there is one, tells the end of its process; where the line
+        is sealed it is the place's life."""
         sock = self.system.line(self.files.popleft())
-        peer = Peer(sock, self.system.process(self.files.popleft()) if files > 1 else None, tag, joiner)
+        second = self.files.popleft() if files > 1 else None
+        if key is not None:
+            peer = Peer(sock, None, tag, joiner, key, self.system.line(second))
+        else:
+            peer = Peer(sock, None if second is None else self.system.process(second), tag, joiner)
         self.coming.add(peer)
         self.selector.register(sock, selectors.EVENT_READ, Source(partial(self.read, peer), peer))
+        if peer.life is not None:
+            self.selector.register(peer.life, selectors.EVENT_READ, Source(partial(self.read_life, peer), None))
         if peer.process is not None:
             self.selector.register(peer.process, selectors.EVENT_READ, Source(partial(self.read_to_the_end, peer), None))
 
@@ -286,6 +293,17 @@ class Hub:
             pass
         self.hang_up(peer)
 
+    def read_life(self, peer: Peer) -> None:
+        """The place's machine is silent, or the place has hung up: then its line tells that itself, after all that was sent on it."""
+        if peer.life is None:
+            return
+        silent = is_silent(peer.life)
+        if silent:
+            self.read_to_the_end(peer)
+        elif silent is False:
+            self.selector.unregister(peer.life)
+            peer.bury()
+
     def hang_up(self, peer: Peer) -> None:
         """Nothing more is read from this line, and the death is told after all that came before. Where the process is known it is killed
         first, so that what is told dead is dead."""
@@ -296,6 +314,8 @@ class Hub:
         self.selector.unregister(peer.sock)
         if peer.process is not None:
             self.selector.unregister(peer.process)
+        if peer.life is not None:
+            self.selector.unregister(peer.life)
         peer.hang_up()
         self.unsent.pop(peer, None)
         self.to_driver("ended", peer.tag)
@@ -348,7 +368,7 @@ class Hub:
         newcomer.place = place
         self.coming.discard(newcomer)
         self.peers[place] = newcomer
-        self.to_driver("joined", place, newcomer.tag)
+        self.to_driver("joined", place, newcomer.tag, newcomer.joiner)
         self.timers.at(self.now, partial(self.look_at, newcomer))
         return newcomer.sock is not None
 
@@ -359,8 +379,8 @@ class Hub:
             newcomer.flush_at_last(2)
             self.hang_up(newcomer)
 
-    def start_place(self, joiner: Optional[int]) -> None:
-        self.to_driver("start", joiner)
+    def start_place(self, joiner: Optional[int], wait: Optional[float] = None) -> None:
+        self.to_driver("start", joiner, wait)
 
     def end_place(self, place: int) -> None:
         peer = self.peers[place]

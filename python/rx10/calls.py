@@ -2,11 +2,13 @@
 
 from __future__ import annotations
 
-from typing import Any, Callable, Dict, Tuple
+from typing import Any, Callable, Dict, Optional, Tuple
 
 from .errors import Misuse
 from .finish import Finish
 from .place import Place, current
+
+WAIT = 60                       # seconds in which a place must come
 
 
 class Calls:
@@ -30,11 +32,14 @@ class Calls:
         """Runs fn(*args, **kwargs) at a place, and returns its value or raises what it raised."""
         return self._place.at(place, fn, args, kwargs)
 
-    def join(self) -> int:
-        """Takes in one more place and returns its number. Raises Misuse where there can be none."""
+    def join(self, wait: Optional[float] = WAIT) -> int:
+        """Takes in one more place and returns its number. Raises Misuse where there can be none, or none comes within `wait` seconds; None
+        waits for ever."""
+        if wait is not None and wait <= 0:
+            raise ValueError("a place needs some time to come")
         with self._place.guard():
             task = self._place.task()
-            place, why = self._place.wait(task, "join", task.key)
+            place, why = self._place.wait(task, "join", task.key, wait)
         if place is None:
             raise Misuse(why)
         return place
@@ -104,9 +109,9 @@ def at(place: int, fn: Callable, /, *args: Any, **kwargs: Any) -> Any:
     return job().at(place, fn, *args, **kwargs)
 
 
-def join() -> int:
+def join(wait: Optional[float] = WAIT) -> int:
     """`join` of the current task's job."""
-    return job().join()
+    return job().join(wait)
 
 
 def kill(place: int) -> None:

@@ -2,11 +2,11 @@
 
 from __future__ import annotations
 
-from typing import Any, Callable, Dict, List, Optional
+from typing import Any, Callable, Dict, List, Optional, Sequence
 
 from . import pickles
 from .errors import DeadPlace, Misuse, RemoteError, bare, group, leaves, outcome
-from .place import Place, Task
+from .place import Outcome, Place, Task
 from .progress import ProgressLine, Tally
 
 
@@ -52,7 +52,7 @@ class Finish:
     def __enter__(self) -> Finish:
         with self._place.guard():
             self._task = task = self._place.task()
-            self._place.tell("open", task.key, self.watch)
+            self._place.tell("open", task.key, self.watch, None)
             task.finishes.append(self)
         return self
 
@@ -72,13 +72,13 @@ class Finish:
         body = [] if fault is None else [_as_exception(leaf) for leaf in leaves(fault)]
         with self._place.guard():
             task = self._task_in_turn()
-            lost, masked, thrown, ends = self._place.wait_for_release(task, body, "wait", task.key, len(body))
+            how = self._place.wait_for_release(task, body, "wait", task.key, len(body))
             task.finishes.pop()
-        self._tell_handles(ends, thrown)
+        self._tell_handles(task, how)
         if self._line is not None:
             self._line.end()
-        if lost or thrown:
-            raise outcome("a finish", lost, masked, thrown) from None
+        if how.lost or how.thrown:
+            raise outcome("a finish", how.lost, how.masked, how.thrown) from None
 
     def _task_in_turn(self) -> Task:
         task = self._place.task()
@@ -87,20 +87,16 @@ class Finish:
             raise Misuse("a finish was left out of turn")
         return task
 
-    def _tell_handles(self, ends: List[tuple], thrown: List[BaseException]) -> None:
-        for key, kind, what in ends:
-            handle = self._handles.get(key)
-            if handle is not None and kind == "value":
-                handle._value = what
-            elif handle is not None:
-                handle._faults = [thrown[at] for at in what]
-        for handle in self._handles.values():
+    def _tell_handles(self, task: Task, how: Outcome) -> None:
+        for key, handle in self._handles.items():
+            handle._value = task.values.pop(key, None)
+            handle._faults = [how.thrown[at] for at in how.threw.get(key, ())]
             handle._over = True
 
-    def show(self, tally: Tally) -> None:
-        """Shows how far the tasks are, where progress is wanted."""
+    def show(self, tally: Tally, silent: Sequence[int]) -> None:
+        """Shows how far the tasks are, and which places give no sign of life, where progress is wanted."""
         if self._line is not None:
-            self._line.show(tally)
+            self._line.show(tally, silent)
 
 
 def _as_exception(fault: BaseException) -> Exception:

@@ -8,7 +8,7 @@ import pickle
 import queue
 import socket
 import threading
-from typing import Any, Callable, Dict, Iterable, List, NamedTuple, Optional, Tuple, TYPE_CHECKING
+from typing import Any, Callable, Dict, Iterable, List, NamedTuple, Optional, Sequence, Tuple, TYPE_CHECKING, Union
 
 from . import pickles, wire
 from .errors import Closed, CoordinatorLost, Faults, Misuse, bare, leaves, outcome
@@ -32,6 +32,16 @@ class Task:
         self.thread: Optional[int] = None
         self.finishes: List[Finish] = []                        # those that it entered and has not left, the innermost last
         self.answers: queue.SimpleQueue[tuple] = queue.SimpleQueue()
+        # How tasks ended that hang under its finishes and calls. It comes before the release, and is shown with it.
+        self.values: Dict[int, bytes] = {}                      # by key
+        self.faults: Dict[int, Tuple[int, Sequence[bytes]]] = {}    # by number: the key, and what it stands for
+
+    def note_end(self, key: int, how: str, what: Any) -> None:
+        """A task ended: with a value, or with faults by number."""
+        if how == "value":
+            self.values[key] = what
+        else:
+            self.faults.update((number, (key, blobs)) for number, blobs in what.items())
 
 
 class Outcome(NamedTuple):
@@ -40,7 +50,8 @@ class Outcome(NamedTuple):
     lost: List[int]
     masked: int
     thrown: List[BaseException]
-    ends: List[tuple]                       # (key, "value", bytes) and (key, "threw", positions in `thrown`)
+    threw: Dict[int, List[int]]             # by key of a task that threw: positions in `thrown`
+    limit: bool                             # whether its limit has passed
 
 
 class Guard:
@@ -60,7 +71,8 @@ class Guard:
 class Place:
     """The part of a job that runs in this process."""
 
-    def __init__(self, line: socket.socket, by_value: bool = False) -> None:
+    def __init__(self, line: Union[socket.socket, wire.SealedLine], by_value: bool = False) -> None:
+        self.say: Callable[[str], None] = lambda text: None     # tells the user what this place does
         self.number = -1                                        # until the hub tells it
         self.living: Tuple[int, ...] = ()
         self.count = 0                                          # places that have joined, dead ones too
@@ -114,6 +126,7 @@ class Place:
 
     def _on_hello(self, number: int, living: Tuple[int, ...], count: int, threads: int) -> None:
         self.number, self.living, self.count, self.pool.limit = number, living, count, threads
+        self.say(f"this is place {number} of the job; places {', '.join(map(str, living))} live")
 
     def _on_places(self, living: Tuple[int, ...], count: int) -> None:
         self.living, self.count = living, count
@@ -130,6 +143,18 @@ class Place:
         if task is not None:
             task.answers.put((kind, *rest))
 
+    def _on_ended(self, opener: int, key: int, how: str, what: Any) -> None:
+        task = self.tasks.get(opener)
+        if task is not None:
+            task.note_end(key, how, what)
+
+    def _on_ping(self) -> None:
+        """The hub asks for a sign of life. This thread gives it, also while tasks compute."""
+        try:
+            self.tell("pong")
+        except Closed:
+            pass
+
     def _on_stop(self, kind: str, why: str, over: bool) -> None:
         if not over:
             self.failed = True
@@ -137,7 +162,7 @@ class Place:
         self.close(STOPPED[kind](why))
 
     _HANDLE: Dict[str, Callable[..., None]] = {
-        "hello": _on_hello, "places": _on_places, "ready": _on_ready, "run": _on_run, "stop": _on_stop,
+        "hello": _on_hello, "places": _on_places, "ready": _on_ready, "run": _on_run, "ended": _on_ended, "ping": _on_ping, "stop": _on_stop,
         "released": lambda self, *rest: self._on_answer("released", *rest),
         "joined": lambda self, *rest: self._on_answer("joined", *rest),
         "progress": lambda self, *rest: self._on_answer("progress", *rest)}
@@ -187,10 +212,10 @@ class Place:
             self.pool.leave()
         kind, *answer = task.answers.get()
         while kind == "progress":
-            watch, tally = answer
+            watch, tally, silent = answer
             for finish in task.finishes:
                 if finish.watch == watch:
-                    finish.show(tally)
+                    finish.show(tally, silent)
             kind, *answer = task.answers.get()
         if task.pooled:
             self.pool.enter_again()
@@ -200,9 +225,18 @@ class Place:
 
     def wait_for_release(self, task: Task, body: Iterable[BaseException], *message: Any) -> Outcome:
         """The same, for what a release answers. `body`: what a finish's own body raised, of which the hub knows the count alone."""
-        lost, masked, thrown, ends = self.wait(task, *message)
+        lost, masked, numbers, limit = self.wait(task, *message)
         own = iter(body)
-        return Outcome(lost, masked, [next(own) if data is None else pickles.unpack_fault(data) for data in thrown], ends)
+        thrown: List[BaseException] = []
+        threw: Dict[int, List[int]] = {}
+        for number in numbers:
+            if number is None:
+                thrown.append(next(own))
+                continue
+            key, blobs = task.faults.pop(number)
+            threw.setdefault(key, []).extend(range(len(thrown), len(thrown) + len(blobs)))
+            thrown.extend(map(pickles.unpack_fault, blobs))
+        return Outcome(lost, masked, thrown, threw, limit)
 
     def spawn(self, place: int, fn: Callable, args: tuple, kwargs: dict, wanted: bool) -> int:
         """Starts a task and returns its key."""
@@ -225,10 +259,12 @@ class Place:
         if place == self.number:
             return self._at_home(call)
         with self.guard():
-            lost, masked, thrown, ends = self.wait_for_release(task, (), "call", task.key, self._new_key(), place, call)
-        if not lost and not thrown:
-            return pickles.unpack_value(ends[0][2])
-        raise bare(outcome(f"at({place})", lost, masked, thrown))
+            key = self._new_key()
+            how = self.wait_for_release(task, (), "call", task.key, key, place, call, None)
+        value = task.values.pop(key, None)
+        if value is not None and not how.lost and not how.thrown:
+            return pickles.unpack_value(value)
+        raise bare(outcome(f"at({place})", how.lost, how.masked, how.thrown))
 
     def _at_home(self, call: bytes) -> Any:
         """The same task goes on, with copies of arguments and result."""
@@ -273,9 +309,10 @@ class Place:
             pass
 
 
-def serve(line: socket.socket, by_value: bool = False) -> Place:
-    """The life of a place other than place 0, up to the end of the job or of its line."""
+def serve(line: Union[socket.socket, wire.SealedLine], by_value: bool = False, say: Optional[Callable[[str], None]] = None) -> Place:
+    """The life of a place other than place 0, up to the end of the job or of its line. `say` is told which place it is."""
     here = Place(line, by_value)
+    here.say = say or here.say
     try:
         here.tell("ready", VERSION)
     except Closed:

@@ -5,8 +5,9 @@
 No process is started. At each step chance picks one of the things that may happen next. A run fails where the core refuses to go on, or
 where one of these does not hold: a task runs once, at a living place, and not after a scope is over that it is under; no task goes on after
 a finish or a call while one under it still runs at a living place; each release names the places at which tasks directly under it were
-surely lost, and none where none can have been; faults and results of tasks that surely ended come, once, and no others; the last telling
-of a watched finish has all its tasks done or lost; all ends, and the core keeps nothing.
+surely lost, and none where none can have been; with a release the opener has the results and faults of exactly the tasks whose end was
+granted, each once, and nothing of them comes before it was granted or after the release; the last telling of a watched finish has all its
+tasks done or lost; where a limit passes exactly the places end that run tasks under it; all ends, and the core keeps nothing.
 """
 
 import collections
@@ -15,7 +16,7 @@ import random
 import sys
 
 from model import LINE, MOST, Model
-from rx10.hub.core import Core, Options
+from rx10.hub.core import AGAIN, Core, Options
 
 
 class Task:
@@ -27,7 +28,8 @@ class Task:
         self.own = []                   # ids of those that it opened, the innermost last
         self.waits = None               # the scope that it waits for
         self.ran = self.ended = self.joins = self.wanted = False
-        self.faults = []
+        self.faults, self.body = [], 0  # those that it threw, and how many the body of its finish did
+        self.values, self.thrown = {}, {}       # what came for it before a release: by key, and by number
 
 
 class Newcomer:
@@ -47,12 +49,18 @@ class World:
         self.newcomers, self.gone, self.kills = [], set(), []
         self.scope_ids, self.keys, self.names = itertools.count(1), itertools.count(1), itertools.count(1)
         self.finishes, self.over, self.watched, self.tallies = {0}, set(), {}, {}
+        self.granted = []                                       # keys of tasks whose end the coordinator granted, in this order
+        self.limits, self.alarms, self.late = {}, {}, set()     # by scope, by the coordinator's number of it; scopes
         self.main = Task(0, 0, 0, [0], 0)
         self.tasks, self.awake = {0: self.main}, []             # all, and those that may do something if they do not wait
         self.begin(self.main)
         self.wish, self.counts = rng.randrange(5, 60), collections.Counter()
+        self.greeting = f"coordinator 1 places 1 most {MOST} line {rng.choice([LINE, 64])} main t0"
+        self.start_job(places)
+
+    def start_job(self, places):
         self.core = Core(self, Options(places, 1))
-        self.core.greet(f"coordinator 1 places 1 most {MOST} line {rng.choice([LINE, 64])} main t0")
+        self.core.greet(self.greeting)
         while len(self.core.seats) < places:
             if self.newcomers:
                 self.arrive(self.newcomers[0])
@@ -65,6 +73,7 @@ class World:
 
     def send(self, place, message):
         assert place not in self.core.seats or not self.core.seats[place].dead, f"{message} is sent to a dead place"
+        assert message[0] != "ended" or message[2] in self.granted, f"{message} is sent, and this end was not granted"
         self.mail[place].append(message)
 
     def welcome(self, newcomer, place):
@@ -76,11 +85,22 @@ class World:
     def turn_away(self, newcomer, why):
         newcomer.gone = True
 
-    def start_place(self, joiner):
+    def start_place(self, joiner, wait=None):
         self.newcomers.append(Newcomer(joiner))
 
     def end_place(self, place):
         self.kills.append(place)
+
+    def alarm(self, seconds, scope):
+        if scope in self.alarms:
+            assert seconds == AGAIN, seconds
+            return
+        opener = self.core.scopes[scope].opener
+        self.alarms[scope] = self.tasks[opener.key].own[len(opener.scopes) - 1]
+        assert seconds == self.limits[self.alarms[scope]], seconds
+
+    def no_alarm(self, scope):
+        del self.alarms[scope]
 
     # What may happen.
 
@@ -88,8 +108,10 @@ class World:
         """The things that may happen next."""
         found = [(self.answer,)] * 3 if self.requests or self.replies else []
         for place, seat in self.core.seats.items():
-            if seat.inbox:
+            if place in self.core._awake:
                 found.append((self.core.take_one, place))
+            elif seat.inbox:                                    # what waits speaks of a task without a number
+                assert self.core.tasks[seat.inbox[0][1]].number is None, f"{seat.inbox[0]} waits, and can be taken"
             if self.mail[place] and place not in self.gone:
                 found.append((self.read_mail, place))
         found += [(self.arrive, newcomer) for newcomer in self.newcomers]
@@ -99,6 +121,8 @@ class World:
             found += [(self.kill, place) for place in self.core.seats if place and place not in self.gone]
         elif chance < 0.04:
             found.append((self.core.tell_progress,))
+        elif chance < 0.06:
+            found += [(self.pass_limit, scope) for scope in self.alarms]
         found += [(self.kill, place) for place in self.kills]
         return found
 
@@ -114,14 +138,20 @@ class World:
     def answer(self):
         """The coordinator answers a line, or one of its lines comes."""
         if self.requests and (not self.replies or self.rng.random() < 0.5):
-            line = self.requests.popleft()
-            self.replies.extend(self.model.ask(line))
-            self.story.append(line)
-            self.counts["bad"] += self.replies[-1] == "bad"
+            self.replies.extend(self.replies_to(self.requests.popleft()))
         elif self.replies:
             line = self.replies.popleft()
             self.story.append("    " + line)
             self.core.reply(line)
+
+    def replies_to(self, line):
+        """What the coordinator answers."""
+        replies = self.model.ask(line)
+        if line.startswith("end") and replies[0] == "ended":
+            self.granted.append(self.core.numbers[int(line.split()[1][1:])].key)
+        self.story.append(line)
+        self.counts["bad"] += replies[0] == "bad"
+        return replies
 
     def arrive(self, newcomer):
         """A new place is ready, and its line may end at once."""
@@ -139,9 +169,23 @@ class World:
             if self.rng.random() < 0.3:
                 self.core.receive(place, [("abort", "what came after the end was taken")])
 
+    def pass_limit(self, number):
+        """The limit of a scope passes."""
+        scope = self.alarms[number]
+        self.story.append(f"LIMIT s{number}")
+        self.late.add(scope)
+        run = {self.tasks[key].place for key, task in self.core.tasks.items() if task.number is not None and scope in self.tasks[key].under}
+        self.kills, before = [], self.kills
+        self.core.limit_passed(number)
+        assert self.kills == sorted(place for place in run if place and not self.core.seats[place].dead), (self.kills, run)
+        self.kills += before
+        self.counts["limits"] += 1
+
     def read_mail(self, place):
         """A place reads a message."""
-        kind, *rest = self.mail[place].popleft()
+        self.read(place, *self.mail[place].popleft())
+
+    def read(self, place, kind, *rest):
         if kind == "run":
             task = self.tasks[rest[0]]
             assert not task.ran and task.place == place, f"task {task.key:x} is run again, or elsewhere"
@@ -149,13 +193,32 @@ class World:
             self.begin(task)
         elif kind == "released":
             self.go_on(self.tasks[rest[0]], *rest[1:])
+        elif kind == "ended":
+            self.note_end(*rest)
         elif kind == "joined":
             self.tasks[rest[0]].joins = False
         elif kind == "progress":
             assert all(begun >= done + lost for begun, done, lost in rest[2].values()), rest
             self.tallies[rest[1]] = rest[2]
 
-    def go_on(self, task, lost, masked, thrown, ends):
+    def is_known(self, _task):
+        """Whether that it was started came to the core. Here what was sent comes."""
+        return True
+
+    def note_end(self, opener, key, how, what):
+        """How a task ended. It stands in the order of the releases."""
+        opener, ended = self.tasks[opener], self.tasks[key]
+        assert ended.under[0] not in self.over and ended.under[0] in [*opener.own, 0], f"the end of {key:x} comes after its release"
+        assert key not in opener.values, f"the end of {key:x} comes twice"
+        if how == "value":
+            assert ended.wanted and not ended.faults, f"the end of {key:x}: {how} {what}"
+            opener.values[key] = what
+        else:
+            assert not opener.thrown.keys() & what.keys(), f"the end of {key:x} comes twice"
+            assert [blob for blobs in what.values() for blob in blobs] == ended.faults, f"the end of {key:x}: {how} {what}"
+            opener.thrown.update((number, (key, blobs)) for number, blobs in what.items())
+
+    def go_on(self, task, lost, masked, thrown, is_late):
         """A task goes on after a finish or a call: here most of what is promised is held."""
         scope, task.waits = task.waits, None
         assert scope is not None
@@ -166,26 +229,32 @@ class World:
         for it in under:
             assert it.ended or it.place in self.gone or it.origin in self.gone and not it.ran, f"scope {scope} is over, task {it.key:x} runs"
         direct = [it for it in under if it.under[0] == scope]
-        sure = {it.place for it in direct if it.ran and not it.ended and it.place in self.gone}
+        sure = {it.place for it in direct if it.ran and not it.ended and it.place in self.gone and self.is_known(it)}
         may = {place for it in under for place in (it.place, it.origin) if place in self.gone}
         assert sure <= set(lost) <= may, f"scope {scope} names {lost}: surely {sure}, perhaps {may}"
         assert lost == sorted(lost) and (lost or not masked), f"scope {scope} masks {masked} and names {lost}"
-        told = [fault for fault in thrown if fault is not None]
-        ended = [it for it in direct if it.ended]
-        living = [it for it in ended if it.place not in self.gone]
-        assert len(told) == len(set(told)) and set(told) <= {fault for it in ended for fault in it.faults}, f"scope {scope} throws {thrown}"
-        assert {fault for it in living for fault in it.faults} <= set(told), f"scope {scope} throws {thrown}"
-        assert {it.key for it in living if it.wanted} <= {key for key, _, _ in ends} <= {it.key for it in ended}, f"scope {scope}: {ends}"
-        for key, kind, what in ends:
-            assert (kind == "value" and not self.tasks[key].faults and what == b"%d" % key
-                    or kind == "threw" and [thrown[at] for at in what] == self.tasks[key].faults), f"scope {scope}: {key:x} {kind} {what}"
+        assert is_late == (scope in self.late), f"scope {scope} says {is_late} of its limit"
+        keys = {it.key for it in direct}
+        granted = [self.tasks[key] for key in self.granted if key in keys]
+        assert {it.key for it in direct if it.ended and it.place not in self.gone} <= {it.key for it in granted}, f"scope {scope} is over early"
+        body = [number for number in thrown if number is None]
+        assert len(body) == task.body and (scope == 0 or thrown[:task.body] == body), f"scope {scope} throws {thrown}"
+        told = [blob for number in thrown if number is not None for blob in task.thrown.pop(number)[1]]
+        assert told == [fault for it in granted for fault in it.faults], f"scope {scope} throws {told}"
+        task.body = 0
+        for it in granted:
+            assert task.values.pop(it.key, None) == (b"%d" % it.key if it.wanted and not it.faults else None), f"scope {scope}: {it.key:x}"
+        assert not keys & task.values.keys(), f"scope {scope} has results that were not granted"
         tally = self.tallies.get(self.watched.get(scope), {})
         assert all(begun == done + lost_ for begun, done, lost_ in tally.values()), tally
 
     # What a task does.
 
+    def say(self, place, *message):
+        self.core.receive(place, [message])
+
     def tell(self, task, kind, *rest):
-        self.core.receive(task.place, [(kind, task.key, *rest)])
+        self.say(task.place, kind, task.key, *rest)
 
     def chain(self, task):
         return [*reversed(task.own), *task.under]
@@ -216,7 +285,7 @@ class World:
             task.own.append(scope)
             callee = self.start(task, place, self.chain(task))
             callee.wanted = True
-            self.tell(task, "call", callee.key, place, b"call")
+            self.tell(task, "call", callee.key, place, b"call", self.limit_of(scope))
         elif may_start and chance < 0.72:
             scope = next(self.scope_ids)
             self.finishes.add(scope)
@@ -224,24 +293,29 @@ class World:
             watch = next(self.names) if self.rng.random() < 0.3 else 0
             if watch:
                 self.watched[scope] = watch
-            self.tell(task, "open", watch)
+            self.tell(task, "open", watch, self.limit_of(scope))
         elif may_start and chance < 0.74:
             task.joins = True
-            self.tell(task, "join")
+            self.tell(task, "join", None)
         elif may_start and chance < 0.75:
-            self.core.receive(task.place, [("kill", self.rng.randrange(len(self.core.seats)))])
+            self.say(task.place, "kill", self.rng.randrange(len(self.core.seats)))
         elif task.own:
-            task.waits = task.own[-1]
-            self.tell(task, "wait", self.rng.choice([0, 0, 1]))
+            task.waits, task.body = task.own[-1], self.rng.choice([0, 0, 1, 5])
+            self.tell(task, "wait", task.body)
         elif task is not self.main:
             self.end(task)
             task.faults = [b"fault %d" % next(self.names) for _ in range(self.rng.choice([0, 0, 0, 1, 2, 9]))]
             self.tell(task, "end", task.faults, b"%d" % task.key if task.wanted else None)
         else:
             self.end(task)
-            task.waits = 0
-            self.tell(task, "end", [], None)
-            self.core.receive(0, [("root",)])
+            task.waits, task.body = 0, self.rng.choice([0, 0, 1, 5])
+            self.tell(task, "end", [None] * task.body, None)
+            self.say(0, "root")
+
+    def limit_of(self, scope):
+        if self.rng.random() < 0.1:
+            self.limits[scope] = float(self.rng.randrange(1, 9))
+        return self.limits.get(scope)
 
     def run(self):
         """Up to the end of the job."""
@@ -257,9 +331,13 @@ class World:
             self.answer()                                       # `arrive` of those that were struck on their way
         while self.mail[0]:
             self.read_mail(0)
+        self.check_end()
+
+    def check_end(self):
+        """What holds once a job is over."""
         for task in self.tasks.values():
             assert task.ended or {task.place, task.origin} & self.gone, f"task {task.key:x} was forgotten"
-        assert not self.core.kept(), f"the core keeps {self.core.kept()}"
+        assert not self.core.kept() and not self.alarms, f"the core keeps {self.core.kept()}, alarms {self.alarms}"
         self.counts.update(tasks=len(self.tasks), deaths=len(self.gone), late=self.core.late)
 
 

@@ -18,7 +18,7 @@ MUTANTS = {
         CORE, '''        elif words[0] != "parked":
             self._granted(task, words, "released")
 ''', '''        elif words[0] == "parked":
-            self._send(task.place, ("released", task.key, [], 0, [], []))
+            self._send(task.place, ("released", task.key, [], 0, [], False))
 '''),
     "a task's end is told before the task runs": (
         "place.py", "            value = fn(*args, **kwargs)\n            if task.finishes:",
@@ -30,8 +30,8 @@ MUTANTS = {
         "return (release.lost and [it for it in self.seats if self.seats[it].dead]), release.masked"),
     "a task's faults but the first are dropped": (CORE, "for number in release.thrown:", "for number in release.thrown[:1]:"),
     "a silent place is told dead": (
-        "hub/loop.py", "        more = self.core.take()\n",
-        "        more = self.core.take()\n        if len(self.core.scopes) == 3 and 2 in self.peers:\n            self.hang_up(self.peers[2])\n"),
+        "hub/loop.py", "        self.core.take()\n",
+        "        self.core.take()\n        if len(self.core.scopes) == 3 and 2 in self.peers:\n            self.hang_up(self.peers[2])\n"),
     "a loss is raised twice": ("errors.py", "[*map(DeadPlace, lost), *thrown]", "[*map(DeadPlace, lost), *map(DeadPlace, lost), *thrown]"),
     "a call whose caller's place died runs all the same": (CORE, 'if words[0] == "landed":\n', "if True:\n"),
     "a call leaves before the coordinator answered": (
@@ -39,7 +39,10 @@ MUTANTS = {
 ''', '''            self._send(callee.place, ("run", callee.key, call, True))
             self._ask(f"arrive t{callee.number}", lambda words: None)
 '''),
-    "a lost opener's results are kept": (CORE, "            scope.opener, scope.ends = None, []\n", ""),
+    "a result goes on before its task's end was granted": (
+        CORE, '        parts = self._new_faults(thrown)\n',
+        '        parts = self._new_faults(thrown)\n        if task.wanted and not parts and task.scope.opener is not None:\n'
+        '            self._send(task.scope.opener.place, ("ended", task.scope.opener.key, task.key, "value", value))\n'),
     "a loss frees nobody who waits": (
         CORE, '        if words[0] == "freed":\n',
         '        if words[0] == "freed" and "lost" in words:\n            return ""\n        if words[0] == "freed":\n'),

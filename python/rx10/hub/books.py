@@ -22,17 +22,31 @@ class Task:
 class Scope:
     """A finish or a call that was not released yet."""
 
-    __slots__ = ("number", "opener", "parent", "below", "faults", "ends", "watch", "tally", "changed")
+    __slots__ = ("number", "opener", "parent", "below", "body", "watch", "tally", "changed", "has_limit", "is_late", "running")
 
-    def __init__(self, number: int, opener: Optional[Task], parent: Optional[Scope]) -> None:
+    def __init__(self, number: int, opener: Optional[Task], parent: Optional[Scope], has_limit: bool = False) -> None:
         self.number, self.parent = number, parent
         self.opener = opener                                    # None for the root, and once the opener is lost
         self.below: Set[Scope] = set()                          # the scopes whose parent it is
-        self.faults: List[int] = []
-        self.ends: List[tuple] = []                             # (key, "value", bytes) and (key, "threw", numbers of faults)
+        self.body: Dict[int, int] = {}                          # the faults of its own body: by number how many it stands for
         self.watch = 0                                          # the opener's name for it, where it wants to know how far it is, and
         self.tally: Optional[Dict[int, List[int]]] = None       # then by place how many tasks began, are done, are lost
         self.changed = False
+        self.has_limit, self.is_late = has_limit, False         # late: its limit has passed
+        below_limit = has_limit or parent is not None and parent.running is not None
+        self.running: Optional[Dict[int, int]] = {} if below_limit else None        # under a limit: by place how many tasks hang here
+
+    def came(self, place: int) -> None:
+        """A task hangs here now, at this place or on its way to it."""
+        if self.running is not None:
+            self.running[place] = self.running.get(place, 0) + 1
+
+    def left(self, place: int) -> None:
+        """One of them is over, or lost."""
+        if self.running is not None:
+            self.running[place] -= 1
+            if not self.running[place]:
+                del self.running[place]
 
     def count(self, place: int, begun: int = 0, done: int = 0, lost: int = 0) -> None:
         """Counts a task that hangs under this scope, where it is watched."""

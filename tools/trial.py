@@ -49,7 +49,7 @@ def jobs(parts):
 
 def counted(text):
     """How many have passed and failed by the last line of a text; one that has no such line has failed."""
-    found = re.search(r"^(\d+) passed, (\d+) failed\n?\Z", text, re.M)
+    found = re.search(r"^(\d+) passed, (\d+) failed(?:, \d+ skipped)?\n?\Z", text, re.M)
     return (int(found[1]), int(found[2])) if found else (0, 1)
 
 

@@ -2,9 +2,9 @@
 """Tests of the Python package. Run it from anywhere: python3 python/tests/run.py [NAME ..]
 
 It takes the coordinator that the package finds (RX10_COORDINATOR names one). Where there is none the model of these tests stands in for it,
-and that is said. What is not on this machine is skipped by name; nothing is installed. No terminal is needed, and the machine may be busy:
-what a test waits for ends the wait, and no test measures speed. A name is that of a test module, class or test, as `test_driven`. The last
-line is `N passed, N failed`.
+and that is said. What is not on this machine is skipped by name; nothing is installed (`setup` does that). No terminal is needed, and the
+machine may be busy: what a test waits for ends the wait, and no test measures speed. A name is that of a test module, class or test, as
+`test_driven`. The last line is `N passed, N failed, N skipped`.
 """
 
 import os
@@ -49,7 +49,7 @@ def main(names):
     for test, why in result.skipped:
         print(f"skipped: {test.id()}: {why}")
     failed = len({it[0].id() for it in [*result.failures, *result.errors]}) + len(result.unexpectedSuccesses)
-    print(f"{result.testsRun - failed - len(result.skipped)} passed, {failed} failed")
+    print(f"{result.testsRun - failed - len(result.skipped)} passed, {failed} failed, {len(result.skipped)} skipped")
     return 1 if failed or not result.testsRun else 0
 
 

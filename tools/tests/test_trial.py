@@ -24,7 +24,7 @@ class Trials(unittest.TestCase):
         self.assertFalse(any("--without" in it for _, it in trial.jobs(["tables"])))
 
     def test_last_lines(self):
-        for text, wanted in (("a\n12 passed, 0 failed\n", (12, 0)), ("0 passed, 3 failed", (0, 3)), ("", (0, 1)), ("1 passed, 0 failed\nmore\n", (0, 1))):
+        for text, wanted in (("a\n12 passed, 0 failed\n", (12, 0)), ("0 passed, 3 failed", (0, 3)), ("4 passed, 1 failed, 2 skipped\n", (4, 1)), ("", (0, 1)), ("1 passed, 0 failed\nmore\n", (0, 1))):
             self.assertEqual(trial.counted(text), wanted, text)
 
     def test_what_is_counted(self):

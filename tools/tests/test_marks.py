@@ -155,6 +155,13 @@ class Marks(unittest.TestCase):
     def test_a_place_that_joins(self):
         self.compare(JOINING)
 
+    def test_stores_that_refuse(self):
+        script = b"new r = 2; put r[0] = 1; try { get x = r[2]; } catch { } try { new s = 300; } catch { } forget r; try { get x = r[0]; } catch { } print 1;"
+        done = subprocess.run([PROGRAM, "step"], input=script, capture_output=True, timeout=60, check=False)
+        for word in (" index ", " full ", " stale "):
+            self.assertIn(word, done.stdout.decode())
+        self.compare(done.stdout.decode())
+
     def test_deaths(self):
         for moment in (3, 11, 24, 37):
             words = ["--places", "4", "--seed", str(moment), "--kill", "2@%d" % moment, "--kill", "1@%d" % (moment + 7), "--join", "12"]

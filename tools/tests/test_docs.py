@@ -9,7 +9,7 @@ import re
 import sys
 import unittest
 
-import reading
+import needed_lines
 from places import TOP
 
 CRATES = TOP / "crates"
@@ -52,13 +52,13 @@ def list_text(title):
 def listed(title):
     """The lines that a reading list has to tell of each file: those that its definitions need, without those of the lists above."""
     roots, above = LISTS[title]
-    told = reading.needed(above)
-    return {file: lines - told.get(file, 0) for file, lines in reading.needed(roots).items() if lines != told.get(file, 0)}
+    told = needed_lines.needed(above)
+    return {file: lines - told.get(file, 0) for file, lines in needed_lines.needed(roots).items() if lines != told.get(file, 0)}
 
 
 def read_in_all(title):
     """The lines of a reading list and of the lists to which it adds."""
-    return sum(reading.needed(LISTS[title][0]).values())
+    return sum(needed_lines.needed(LISTS[title][0]).values())
 
 
 def files(crate, part):
@@ -69,7 +69,7 @@ def files(crate, part):
 @functools.lru_cache(maxsize=None)
 def trusted():
     """The lines used of each file that the program's promise needs, by its path under crates/."""
-    return reading.needed(COMMANDS)
+    return needed_lines.needed(COMMANDS)
 
 
 def claim_rows():

@@ -84,6 +84,9 @@ def type_of(name, text):
 def needed(roots):
     """The lines used of each file, by its path under crates/, that definitions need; a root is a path without its ending, and a name in it."""
     left = [(path.replace("/", "."), name) for path, name in roots]
+    for path, name in left:
+        if module(path) is None or name not in module(path).defined:
+            raise KeyError("%s does not define %s" % (path, name))
     seen, lines = set(), collections.defaultdict(dict)
     while left:
         at = left.pop()

@@ -171,6 +171,7 @@ class Place:
         self.ready.set()
         for task in list(self.tasks.values()):
             task.answers.put(("stop",))
+        self.pool.close()
 
     def abort(self, why: str) -> None:
         """Ends the job. At place 0 it returns when the other places have ended, as far as the engine can end them."""

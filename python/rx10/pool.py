@@ -5,7 +5,9 @@ from __future__ import annotations
 import collections
 import queue
 import threading
-from typing import Callable, Deque, List, Set
+from typing import Callable, Deque, List, Optional, Set
+
+SPARE = 8                       # threads without a task that are kept beside `limit` of them: tasks that waited leave as many behind
 
 
 class Pool:
@@ -17,14 +19,16 @@ class Pool:
         self._running, self._idle = 0, 0                        # tasks that count, and threads without one
         self._back: Deque[threading.Event] = collections.deque()
         self._new: Deque[Callable[[], None]] = collections.deque()
-        self._jobs: queue.SimpleQueue[Callable[[], None]] = queue.SimpleQueue()
+        self._jobs: queue.SimpleQueue[Optional[Callable[[], None]]] = queue.SimpleQueue()
         self._busy: Set[int] = set()
+        self._closed = False
 
     def submit(self, job: Callable[[], None]) -> None:
-        """Runs a job in a thread, once its turn has come."""
+        """Runs a job in a thread, once its turn has come. After `close` it runs none."""
         with self._lock:
-            self._new.append(job)
-            self._fill()
+            if not self._closed:
+                self._new.append(job)
+                self._fill()
 
     def leave(self) -> None:
         """The job that runs in this thread begins to wait."""
@@ -33,19 +37,29 @@ class Pool:
             self._fill()
 
     def enter_again(self) -> None:
-        """It has waited. Returns once its turn has come."""
+        """It has waited. Returns once its turn has come, or the pool is closed."""
         turn = threading.Event()
         with self._lock:
             self._back.append(turn)
             self._fill()
         turn.wait()
 
+    def close(self) -> None:
+        """Nothing more is begun. Those that have waited go on at once, and each thread ends with its job."""
+        with self._lock:
+            self._closed = True
+            self._new.clear()
+            self._fill()
+            for _ in range(self._idle):
+                self._jobs.put(None)
+            self._idle = 0
+
     def busy_threads(self) -> List[int]:
         """The threads in which jobs are now, also those that wait."""
         return list(self._busy)
 
     def _fill(self) -> None:
-        while self._running < self.limit and (self._back or self._new):
+        while (self._back or self._new) and (self._running < self.limit or self._closed):
             self._running += 1
             if self._back:
                 self._back.popleft().set()
@@ -60,10 +74,16 @@ class Pool:
         me = threading.get_ident()
         while True:
             job = self._jobs.get()
+            if job is None:
+                return
             self._busy.add(me)
             job()
             self._busy.discard(me)
+            del job                                             # an idle thread keeps nothing of a task
             with self._lock:
                 self._running -= 1
                 self._idle += 1
                 self._fill()
+                if self._closed or self._idle > self.limit + SPARE:
+                    self._idle -= 1
+                    return

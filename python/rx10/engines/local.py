@@ -10,7 +10,7 @@ import socket
 import sys
 import threading
 import time
-from typing import Dict, Optional
+from typing import Dict, List, Optional
 
 from .. import pickles, place
 from .base import Engine, Job
@@ -40,7 +40,8 @@ class Local(Engine):
             raise RuntimeError("a place imports this main module, so what starts the job must stand under `if __name__ == \"__main__\":`")
         # A forked place would hold the lines of all others open; a fork server would be the parent with which a place ends.
         self._context = multiprocessing.get_context("spawn")
-        self._processes: Dict[int, multiprocessing.process.BaseProcess] = {}
+        self._processes: Dict[int, multiprocessing.process.BaseProcess] = {}    # those whose files are open here
+        self._numbers: List[int] = []
         self._lock, self._stopped = threading.Lock(), False
 
     def start(self, job: Job) -> None:
@@ -62,6 +63,7 @@ class Local(Engine):
                 process = self._context.Process(target=main, args=(far, os.getpid()), name="rx10 place")
                 pid = self._start(process)
                 self._processes[pid] = process
+                self._numbers.append(pid)
                 if hasattr(os, "pidfd_open"):
                     pidfd = os.pidfd_open(pid)
             self._job.connected(near, pidfd, pid, joiner)
@@ -86,7 +88,10 @@ class Local(Engine):
 
     def ended(self, tag: int) -> None:
         with self._lock:
-            self._processes[tag].join()
+            process = self._processes.pop(tag, None)            # none where the job is over
+            if process is not None:
+                process.join()
+                process.close()
 
     def stop(self, graceful: bool) -> None:
         with self._lock:
@@ -100,7 +105,9 @@ class Local(Engine):
                 process.join(max(0, until - time.monotonic()))
                 process.kill()
                 process.join()
+                process.close()
+            self._processes.clear()
 
-    def processes(self) -> list:
-        """The processes of the places, ended ones too."""
-        return list(self._processes.values())
+    def processes(self) -> List[int]:
+        """The numbers of the processes that were started, ended ones too."""
+        return list(self._numbers)

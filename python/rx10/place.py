@@ -11,7 +11,7 @@ import threading
 from typing import Any, Callable, Dict, Iterable, List, NamedTuple, Optional, Sequence, Tuple, TYPE_CHECKING
 
 from . import pickles, wire
-from .errors import Closed, CoordinatorLost, Faults, Misuse, bare, leaves, outcome
+from .errors import Closed, CoordinatorLost, Misuse, bare, leaves, outcome
 from .pool import Pool
 from .version import VERSION
 
@@ -268,10 +268,14 @@ class Place:
     def _at_home(self, call: bytes) -> Any:
         """The same task goes on, with copies of arguments and result."""
         fn, args, kwargs = pickle.loads(call)
+        raised: Optional[BaseException] = None
         try:
             value = fn(*args, **kwargs)
-        except Faults as fault:
-            raise outcome(f"at({self.number})", (), 0, leaves(fault)) from fault    # an inner finish's `lost` is not this call's
+        except Exception as fault:
+            raised = bare(outcome(f"at({self.number})", (), 0, leaves(fault)))      # an inner finish's `lost` is not this call's
+            raised = raised.with_traceback(raised.__traceback__ or fault.__traceback__)
+        if raised is not None:
+            raise raised
         return pickles.unpack_value(pickles.pack_value(value, self._by_value))
 
     def _new_key(self) -> int:

@@ -1,0 +1,34 @@
+"""Each situation of task_situations.py ends as it should, and leaves no process behind."""
+
+import concurrent.futures
+import unittest
+
+import alone
+from task_situations import SITUATIONS
+
+AT_A_TIME = 3                   # most of their time they wait
+
+
+def run(name):
+    return alone.run([*alone.BARE, "-m", "task_situations", name])
+
+
+class TaskSituations(unittest.TestCase):
+    @classmethod
+    def setUpClass(cls):
+        cls.pool = concurrent.futures.ThreadPoolExecutor(AT_A_TIME)
+        cls.results = {name: cls.pool.submit(run, name) for name in SITUATIONS}
+
+    @classmethod
+    def tearDownClass(cls):
+        cls.pool.shutdown()
+
+
+def add(name):
+    def test(self):
+        self.results[name].result().check(self)
+    setattr(TaskSituations, f"test_{name}", test)
+
+
+for each in SITUATIONS:
+    add(each)

@@ -13,8 +13,8 @@ from typing import Any, Callable, Dict, List, Optional, Sequence, Set
 from . import calls, program, wire
 from .calls import Calls
 from .engines.base import Engine
-from .errors import Closed, CoordinatorLost, leaves, outcome
-from .place import Place, Task
+from .errors import Closed, CoordinatorLost, for_users, leaves, outcome
+from .place import Place, Task, current
 from .version import VERSION
 
 BACKLOG = 1 << 30               # bytes that may wait for a place
@@ -57,6 +57,7 @@ class Runtime(Calls):
 
     # The life of a job.
 
+    @for_users
     def __enter__(self) -> Runtime:
         if self._hub is not None:
             raise Closed("a job is entered once")
@@ -68,7 +69,7 @@ class Runtime(Calls):
         place.number, place.pool.limit, place.owner = 0, self._settings["threads"], threading.get_ident()
         place.end_others, place.await_end = self._end_others, self._await_end
         place.main = place.tasks[0] = self._main = Task(0, place, pooled=False)
-        self._main.thread = place.owner
+        self._main.thread, self._main.within = place.owner, current.get(None)
         try:
             with place.guard():
                 self._start(far_control, far_line)
@@ -91,6 +92,7 @@ class Runtime(Calls):
         self._listener.start()
         threading.Thread(target=self._serve, name="rx10 engine", daemon=True).start()
 
+    @for_users
     def __exit__(self, kind: Any, fault: Optional[BaseException], trace: Any) -> None:
         graceful = False
         try:
@@ -223,6 +225,7 @@ class Runtime(Calls):
 
     # What the driver alone may ask.
 
+    @for_users
     def where(self, place: int) -> Any:
         """What runs a place, as its engine tells it: the number of a process, or a number with a worker's address."""
         self._place.check(place)
@@ -235,8 +238,10 @@ class Runtime(Calls):
             return self._tags[place]
 
     def is_of(self, task: Optional[Task]) -> bool:
-        """Whether a task is of this job; where there is none, whether this thread is the job's main task."""
-        return task.place is self._place if task is not None else self._place.owner == threading.get_ident()
+        """Whether a task is of this job, or runs the `with` of this job in this thread; None stands for no task."""
+        if task is self._main.within and self._main.thread == threading.get_ident():
+            return True
+        return task is not None and task.place is self._place
 
 
 def local(places: int, threads: int = 1, **options: Any) -> Runtime:

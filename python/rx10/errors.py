@@ -72,7 +72,8 @@ def outcome(who: str, lost: Sequence[int], masked: int, thrown: Sequence[BaseExc
     counts = [f"{n} {one if n == 1 else many}" for n, one, many in
               ((len(lost), "place was lost", "places were lost"), (len(thrown), "fault", "faults")) if n]
     raised = group(f"{who}{' past its limit' if limit else ''}: {', '.join(counts)}", [*map(DeadPlace, lost), *thrown])
-    raised.lost, raised.masked, raised.limit = tuple(lost), masked, limit
+    raised.lost, raised.masked = tuple(lost), masked
+    raised.limit = limit
     return raised
 
 

@@ -74,7 +74,8 @@ def unpack_value(data: bytes) -> Any:
     try:
         good, value = pickle.loads(data)
     except Exception as fault:
-        raise Unpicklable(f"the result cannot be unpickled here: {fault!r}") from fault.with_traceback(without_ours(fault.__traceback__))
+        fault.__traceback__ = without_ours(fault.__traceback__)
+        raise Unpicklable(f"the result cannot be unpickled here: {fault!r}") from fault
     if not good:
         raise Unpicklable(value)
     return value

@@ -11,16 +11,25 @@ WHOLE = bool(os.environ.get("RX10_LEAKS"))
 JOBS = {"local": 40, "launched": 12, "dask": 8}
 TASKS = 100_000 if WHOLE else 10_000
 PYTHONS = {"local": sys.executable, "launched": sys.executable, "dask": alone.python_with("distributed")}
+TESTS = {"local": "test_many_local_jobs", "launched": "test_many_launched_jobs", "dask": "test_many_jobs_over_dask"}
 AT_A_TIME = 2                   # most of their time they wait
 
 
 class Leaks(unittest.TestCase):
+    wanted = []                 # the tests that were asked for, of which there may be one
+
+    def __init__(self, method="runTest"):
+        super().__init__(method)
+        self.wanted.append(method)
+
     @classmethod
     def setUpClass(cls):
         cls.pool = concurrent.futures.ThreadPoolExecutor(AT_A_TIME)
-        cls.results = {"tasks": cls.start(sys.executable, "tasks", str(TASKS))}
+        cls.results = {}
+        if "test_many_tasks" in cls.wanted:
+            cls.results["tasks"] = cls.start(sys.executable, "tasks", str(TASKS))
         for engine, python in PYTHONS.items():
-            if python is not None:
+            if python is not None and TESTS[engine] in cls.wanted:
                 cls.results[engine] = cls.start(python, "jobs", engine, str(200 if WHOLE else JOBS[engine]))
 
     @classmethod

@@ -8,6 +8,8 @@ from .errors import Misuse, for_users
 from .finish import Finish
 from .place import Place, current
 
+WAIT = 60                       # seconds in which a place must come
+
 
 class Calls:
     """A job as its tasks have it. The calls mean the task that makes them."""
@@ -37,12 +39,15 @@ class Calls:
         return self._place.at(place, fn, args, kwargs, limit)
 
     @for_users
-    def join(self) -> int:
-        """Takes in one more place and returns its number. Raises Misuse where there can be none."""
+    def join(self, wait: Optional[float] = WAIT) -> int:
+        """Takes in one more place and returns its number. Raises Misuse where there can be none, or none comes within `wait` seconds; None
+        waits for ever."""
+        if wait is not None and wait <= 0:
+            raise ValueError("a place needs some time to come")
         with self._place.guard():
             task = self._place.task()
             task.will_wait()
-            place, why = self._place.wait(task, "join", task.key)
+            place, why = self._place.wait(task, "join", task.key, wait)
             task.has_waited()
         if place is None:
             raise Misuse(why)
@@ -119,9 +124,9 @@ def at(place: int, fn: Callable, /, *args: Any, limit: Optional[float] = None, *
 
 
 @for_users
-def join() -> int:
+def join(wait: Optional[float] = WAIT) -> int:
     """`join` of the current task's job."""
-    return job().join()
+    return job().join(wait)
 
 
 @for_users

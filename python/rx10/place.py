@@ -10,7 +10,7 @@ import queue
 import socket
 import threading
 from functools import partial
-from typing import Any, Callable, Dict, Iterable, List, NamedTuple, Optional, Sequence, Tuple, TYPE_CHECKING
+from typing import Any, Callable, Dict, Iterable, List, NamedTuple, Optional, Sequence, Tuple, TYPE_CHECKING, Union
 
 from . import pickles, wire
 from .errors import Closed, CoordinatorLost, Misuse, bare, leaves, outcome
@@ -94,7 +94,8 @@ class Guard:
 class Place:
     """The part of a job that runs in this process."""
 
-    def __init__(self, line: socket.socket, by_value: bool = False) -> None:
+    def __init__(self, line: Union[socket.socket, wire.SealedLine], by_value: bool = False) -> None:
+        self.say: Callable[[str], None] = lambda text: None     # tells the user what this place does
         self.number = -1                                        # until the hub tells it
         self.living: Tuple[int, ...] = ()
         self.count = 0                                          # places that have joined, dead ones too
@@ -148,6 +149,7 @@ class Place:
 
     def _on_hello(self, number: int, living: Tuple[int, ...], count: int, threads: int) -> None:
         self.number, self.living, self.count, self.pool.limit = number, living, count, threads
+        self.say(f"this is place {number} of the job; places {', '.join(map(str, living))} live")
 
     def _on_places(self, living: Tuple[int, ...], count: int) -> None:
         self.living, self.count = living, count
@@ -349,9 +351,10 @@ class Place:
             pass
 
 
-def serve(line: socket.socket, by_value: bool = False) -> Place:
-    """The life of a place other than place 0, up to the end of the job or of its line."""
+def serve(line: Union[socket.socket, wire.SealedLine], by_value: bool = False, say: Optional[Callable[[str], None]] = None) -> Place:
+    """The life of a place other than place 0, up to the end of the job or of its line. `say` is told which place it is."""
     here = Place(line, by_value)
+    here.say = say or here.say
     try:
         here.tell("ready", VERSION)
     except Closed:

@@ -4,20 +4,26 @@ from __future__ import annotations
 
 import json
 import os
+import select
 import socket
 import subprocess
 import sys
 import threading
-from typing import Any, Callable, Dict, List, Optional, Sequence, Set
+import time
+from typing import Any, Callable, Dict, List, Optional, Sequence, Set, Tuple, TYPE_CHECKING, Union
 
 from . import calls, program, wire
-from .calls import Calls
-from .engines.base import Engine
+from .calls import Calls, WAIT
+from .engines.base import Engine, Where
 from .errors import Closed, CoordinatorLost, for_users, leaves, outcome
 from .place import Place, Task, current
 from .version import VERSION
 
+if TYPE_CHECKING:
+    from .engines.tls import Tls
+
 BACKLOG = 1 << 30               # bytes that may wait for a place
+HUB_PATIENCE = 20               # seconds in which the hub of a failed job ends by itself
 HUB = f"import sys; sys.path.insert(0, {os.path.dirname(program.HERE)!r}); from rx10.hub.loop import main; main()"
 
 
@@ -25,7 +31,7 @@ class Runtime(Calls):
     """A job. `with` it: the thread that enters is the main task, at place 0. The end waits for what no finish waited for, and ends all places."""
 
     def __init__(self, engine: Engine, places: int, threads: int = 1, backlog: int = BACKLOG, record: Optional[str] = None,
-                 log: Optional[str] = None, silent: Optional[float] = None) -> None:
+                 log: Optional[str] = None, wait: Optional[float] = WAIT, silent: Optional[float] = None) -> None:
         """Takes the options that all engines have.
 
         Args:
@@ -37,7 +43,12 @@ class Runtime(Calls):
                 after 15 seconds.
             record: a file for the hub's requests to the coordinator and the replies. `python -m rx10.trace` makes a trace of it.
             log: a file for the job's history, which the coordinator writes entry by entry. It is new, or has no bytes.
+            wait: seconds in which the places of the beginning must be there. None: they may take as long as they want.
         """
+        if wait is not None and wait <= 0:
+            raise ValueError("places need some time to come")
+        self._wait, self._started = wait, 0
+        self._deadlines: Dict[int, Tuple[float, float]] = {}    # by join: when its place is given up, and after how many seconds that is
         if places < 1:
             raise ValueError("a job has one place at least")
         if threads < 1:
@@ -73,7 +84,8 @@ class Runtime(Calls):
         try:
             with place.guard():
                 self._start(far_control, far_line)
-                place.ready.wait()
+                if not place.ready.wait(self._wait):
+                    place.abort(self._missing())
             if place.closed:
                 raise place.closed
         except BaseException:
@@ -81,6 +93,14 @@ class Runtime(Calls):
             raise
         calls.opened(self)
         return self
+
+    def _missing(self) -> str:
+        """Why the job does not begin."""
+        wanted, came = self._settings["places"] - 1, len(self.tags())
+        text = f"the job could not begin within {self._wait:g} s: "
+        if not self._started and not came:
+            return text + "the coordinator did not answer"
+        return text + f"{came} of {wanted} places came, and {wanted - came} are missing; {self._engine.describe()}"
 
     def _start(self, *ends: socket.socket) -> None:
         files = [end.fileno() for end in ends]
@@ -118,10 +138,18 @@ class Runtime(Calls):
         with self._place.guard():
             self._engine.stop(graceful)
             if self._hub is not None:
-                self._hub.wait()
+                self._end_hub(graceful)
             self._control.close()
             self._place.hang_up()
             self._place.close(Closed("the job is over"))
+
+    def _end_hub(self, graceful: bool) -> None:
+        assert self._hub is not None
+        try:
+            self._hub.wait(None if graceful else HUB_PATIENCE)
+        except subprocess.TimeoutExpired:
+            self._hub.kill()                                    # it is stuck, and the job has failed anyway
+            self._hub.wait()
 
     def _end_others(self, why: str) -> None:
         """Ends all other places, whatever the hub does: before a task of place 0 learns that the job failed, they have ended."""
@@ -162,18 +190,44 @@ class Runtime(Calls):
         self._tell_hub("abort", why)
 
     def _serve_hub(self) -> None:
-        frames = wire.Frames()
+        frames, said = wire.Frames(), select.poll()
+        said.register(self._control, select.POLLIN)
         while True:
             try:
+                if not said.poll(self._patience()):
+                    self._give_up()
+                    continue
                 data = self._control.recv(1 << 16)
-            except OSError:
+            except (OSError, ValueError):
                 return                                          # the hub has ended, or the job is over here
             if not data:
                 return
             for kind, *rest in frames.feed(data):
                 self._FROM_HUB[kind](self, *rest)
 
-    def _on_joined(self, place: int, tag: Any) -> None:
+    def _patience(self) -> Optional[float]:
+        """Milliseconds until the next place is given up."""
+        if not self._deadlines:
+            return None
+        return max(0, min(when for when, _ in self._deadlines.values()) - time.monotonic()) * 1000 + 1
+
+    def _give_up(self) -> None:
+        """Gives up the places that did not come in their time."""
+        for joiner, (when, wait) in list(self._deadlines.items()):
+            if when <= time.monotonic():
+                del self._deadlines[joiner]
+                self._engine.give_up(joiner)
+                self.no_place(joiner, f"no place came within {wait:g} s; {self._engine.describe()}")
+
+    def _on_start(self, joiner: Optional[int], wait: Optional[float]) -> None:
+        self._started += 1
+        if joiner is not None and wait is not None:
+            self._deadlines[joiner] = (time.monotonic() + wait, wait)
+        self._engine.add(joiner)
+
+    def _on_joined(self, place: int, tag: Any, joiner: Optional[int]) -> None:
+        if joiner is not None:
+            self._deadlines.pop(joiner, None)
         with self._joined:
             self._tags[place] = tag
             self._joined.notify_all()
@@ -199,7 +253,7 @@ class Runtime(Calls):
         logging.getLogger("rx10").info("%s again", "the coordinator answers" if place is None else f"place {place} gives signs of life")
 
     _FROM_HUB: Dict[str, Callable[..., None]] = {
-        "start": lambda self, joiner: self._engine.add(joiner), "ended": lambda self, tag: self._engine.ended(tag),
+        "start": _on_start, "ended": lambda self, tag: self._engine.ended(tag),
         "joined": _on_joined, "behind": _on_behind, "silent": _on_silent, "sign": _on_sign}
 
     def _tell_hub(self, *message: Any, files: Sequence[int] = ()) -> None:
@@ -209,9 +263,10 @@ class Runtime(Calls):
         except OSError:
             pass                                                # the hub has ended, and its line says so
 
-    def connected(self, sock: socket.socket, pidfd: Optional[int], tag: Any, joiner: Optional[int]) -> None:
-        files = [sock.fileno()] + ([] if pidfd is None else [pidfd])
-        self._tell_hub("connected", tag, joiner, len(files), files=files)
+    def connected(self, sock: socket.socket, other: Union[socket.socket, int, None], tag: Any, joiner: Optional[int],
+                  key: Optional[bytes] = None) -> None:
+        files = [sock.fileno()] + ([] if other is None else [other if isinstance(other, int) else other.fileno()])
+        self._tell_hub("connected", tag, joiner, len(files), key, files=files)
 
     def removed(self, tag: Any) -> None:
         self._tell_hub("removed", tag)
@@ -225,17 +280,23 @@ class Runtime(Calls):
 
     # What the driver alone may ask.
 
+    @property
+    def address(self) -> Optional[Tuple[str, int]]:
+        """The host and the port at which places come in; None where they come in otherwise, or the job is over."""
+        return self._engine.address
+
     @for_users
-    def where(self, place: int) -> Any:
-        """What runs a place, as its engine tells it: the number of a process, or a number with a worker's address."""
+    def where(self, place: int) -> Where:
+        """What runs a place: the machine's name and the process's number there, over Dask the worker's address too."""
         self._place.check(place)
         if place == 0:
-            return os.getpid()
+            return Where(socket.gethostname(), os.getpid())
         with self._joined:
             self._joined.wait_for(lambda: place in self._tags or self._place.closed)
             if self._place.closed and place not in self._tags:
                 raise self._place.closed
-            return self._tags[place]
+            tag = self._tags[place]
+        return self._engine.where(tag)._replace(silent=place in self._silent)
 
     def is_of(self, task: Optional[Task]) -> bool:
         """Whether a task is of this job, or runs the `with` of this job in this thread; None stands for no task."""
@@ -265,10 +326,16 @@ def dask(client: Any, workers: Optional[Sequence[str]] = None, spare: Sequence[s
     return Runtime(engine, 1 + len(engine.addresses), threads, **options)
 
 
-def launched(places: int, host: str = "127.0.0.1", port: int = 0, threads: int = 1, **options: Any) -> Runtime:
+def launched(places: int, host: str = "127.0.0.1", port: int = 0, threads: int = 1, tls: Optional[Tls] = None, **options: Any) -> Runtime:
     """A job over places that something else starts, such as mpirun, srun or ssh, each by `python -m rx10.serve HOST PORT`.
 
-    Here and there the environment has one RX10_TOKEN, 32 random hexadecimal digits: who shows it is a place.
+    Here and there the environment has one RX10_TOKEN, 32 random hexadecimal digits. Driver and place prove to each other that they know it.
+    The port is open from this call on, and the job's `address` tells it. So places may be started before the job is entered.
+
+    Args:
+        host: this machine's address at which places reach it.
+        port: 0 for one that is free.
+        tls: an ssl.SSLContext for a server, or the paths of a certificate and its key, where the lines are to be encrypted.
     """
     from .engines.launched import Launched
-    return Runtime(Launched(host, port), places, threads, **options)
+    return Runtime(Launched(host, port, tls), places, threads, **options)

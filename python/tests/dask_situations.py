@@ -115,15 +115,15 @@ def results_and_losses():
 @situation
 def killed_and_back_at_the_same_address():
     with cluster(nannies=True) as (client, _), rx10.dask(client) as rt:
-        number, address = rt.where(1)
-        worker = rt.at(1, os.getpid)
+        first = rt.where(1)
+        assert first.process == rt.at(1, os.getpid)
         with raises(rx10.DeadPlaces, 1):
             with rt.finish() as f:
                 f.spawn(1, nap, LIMIT)
-                kill(worker)
+                kill(first.process)
         wait_until(lambda: can_join(rt))
         assert rt.places() == (0, 2, 3) and rt.at(3, same, 8) == 8
-        assert rt.where(3)[1] == address and rt.where(3)[0] != number
+        assert rt.where(3).worker == first.worker and rt.where(3).process != first.process
 
 
 def can_join(rt):
@@ -141,7 +141,7 @@ def retired():
             with rt.finish() as f:
                 f.spawn(1, nap, LIMIT)
                 time.sleep(0.3)
-                client.retire_workers([rt.where(1)[1]])
+                client.retire_workers([rt.where(1).worker])
         assert rt.places() == (0, 2)
 
 

@@ -85,7 +85,7 @@ class World:
     def turn_away(self, newcomer, why):
         newcomer.gone = True
 
-    def start_place(self, joiner):
+    def start_place(self, joiner, wait=None):
         self.newcomers.append(Newcomer(joiner))
 
     def end_place(self, place):
@@ -296,7 +296,7 @@ class World:
             self.tell(task, "open", watch, self.limit_of(scope))
         elif may_start and chance < 0.74:
             task.joins = True
-            self.tell(task, "join")
+            self.tell(task, "join", None)
         elif may_start and chance < 0.75:
             self.say(task.place, "kill", self.rng.randrange(len(self.core.seats)))
         elif task.own:

@@ -286,7 +286,7 @@ class LoopWorld(World):
             line.process = Process(self, line)
             self.files[line.process.number] = line.process
             files.append(line.process.number)
-        self.control.up.under_way += frame(("connected", line.number, newcomer.joiner, len(files)))
+        self.control.up.under_way += frame(("connected", line.number, newcomer.joiner, len(files), None))
         self.control.files.extend(files)
         line.up.under_way += frame(("ready", "3"))
 

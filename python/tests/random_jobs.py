@@ -29,7 +29,7 @@ class Local:
         return rx10.local(places, threads, record=record)
 
     def kill(self, job, place):
-        kill(job.where(place))
+        kill(job.where(place).process)
 
 
 class Dask:
@@ -45,16 +45,14 @@ class Dask:
         dask.config.set({"distributed.deploy.lost-worker-timeout": "1 day"})
         self.cluster = LocalCluster(n_workers=self.WORKERS, threads_per_worker=1, dashboard_address=None, silence_logs=logging.CRITICAL)
         self.client = Client(self.cluster)
-        self.pids = {}
 
     def start(self, places, threads, record):
         self.client.wait_for_workers(self.WORKERS)
-        self.pids = self.client.run(os.getpid)
-        workers = list(self.pids)
+        workers = list(self.client.scheduler_info()["workers"])
         return rx10.dask(self.client, workers[:places - 1], workers[places - 1:], threads=threads, record=record)
 
     def kill(self, job, place):
-        kill(self.pids[job.where(place)[1]])
+        kill(job.where(place).process)
 
     def close(self):
         self.client.close()

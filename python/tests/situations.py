@@ -171,6 +171,96 @@ def place_that_falls_behind():
     assert len(said) == 1 and said[0].startswith("place 1 is ended: it does not read"), said
 
 
+def memory_of(process):
+    """The memory of a process in megabytes."""
+    with open(f"/proc/{process}/statm", encoding="ascii") as file:
+        return int(file.read().split()[1]) * os.sysconf("SC_PAGESIZE") / 1e6
+
+
+@situation
+def hub_gives_results_on():
+    """300 MB of results are at the driver before their finish is over, and the hub keeps none of them. They are shown with the release."""
+    with new_folder() as folder, rx10.local(places=3) as rt:
+        over = os.path.join(folder, "over")
+        for size, count in ((1_000_000, 300), (10_000, 3000)):
+            with rt.finish() as f:
+                tasks = [f.spawn(1 + number % 2, bytes, size) for number in range(count)]
+                f.spawn(1, wait_until, os.path.exists, over)
+                wait_until(lambda: len(rt._main.values) == count)
+                wait_until(lambda: memory_of(rt._hub.pid) < 100)
+                with raises(rx10.Misuse):
+                    tasks[0].result()
+                open(over, "w", encoding="ascii").close()
+            os.remove(over)
+            assert all(len(task.result()) == size for task in tasks) and not rt._main.values
+
+
+@contextlib.contextmanager
+def warnings():
+    """What the package warns of meanwhile."""
+    import logging
+    said, handler, logger = [], logging.Handler(), logging.getLogger("rx10")
+    handler.emit = lambda record: said.append(record.getMessage())
+    logger.addHandler(handler)
+    yield said
+    logger.removeHandler(handler)
+
+
+@situation
+def stopped_place_is_told_of():
+    """It gives no sign of life, and a place whose task computes does. Nobody is told dead for that."""
+    import io
+    stderr, sys.stderr = sys.stderr, io.StringIO()
+    try:
+        with warnings() as said, rx10.local(places=3) as rt:
+            os.kill(rt.where(1), signal.SIGSTOP)
+            with rt.finish(progress=True) as f:
+                tasks = [f.spawn(1, same, 1), f.spawn(2, compute_until_it_is_there, __file__ + ".nowhere", 20)]
+                threading.Thread(target=go_on_when_said, args=("no sign of life from 1", rt)).start()
+            assert [it.result() for it in tasks] == [1, None] and rt.at(1, same, 3) == 3 and not rt.where(1).silent
+        assert len(said) == 1 and said[0].startswith("place 1 gave no sign of life for 15 s"), said
+        last = sys.stderr.getvalue().rstrip().split("\r")[-1]
+        assert last.startswith("done 2, running 0, lost 0") and "sign" not in last, last
+    finally:
+        sys.stderr = stderr
+
+
+def go_on_when_said(text, rt):
+    wait_until(lambda: text in sys.stderr.getvalue() and rt.where(1).silent and not rt.where(2).silent)
+    os.kill(rt.where(1), signal.SIGCONT)
+
+
+def compute_until_it_is_there(path, seconds):
+    until = time.monotonic() + seconds
+    while time.monotonic() < until and not os.path.exists(path):
+        sum(range(1000))
+
+
+@situation
+def silent_places_are_ended_where_that_is_wanted():
+    """One that is stopped, and one that holds the interpreter's lock, but not one whose task computes."""
+    with warnings() as said, rx10.local(places=4, silent=10) as rt:
+        with raises(rx10.DeadPlaces, 1, 2):
+            with rt.finish() as f:
+                os.kill(rt.where(1), signal.SIGSTOP)
+                f.spawn(1, same, 1)
+                f.spawn(2, hold_the_interpreter, LIMIT)
+                busy = f.spawn(3, compute_until_it_is_there, __file__ + ".nowhere", 15)
+        assert busy.result() is None and rt.places() == (0, 3)
+        wait_until(lambda: len(said) == 2)
+    assert sorted(said) == [f"place {place} is ended: it gave no sign of life for 10 s" for place in (1, 2)], said
+
+
+@situation
+def coordinator_that_does_not_answer():
+    with warnings() as said, rx10.local(places=2) as rt:
+        coordinator = coordinator_of(rt)
+        os.kill(coordinator, signal.SIGSTOP)
+        threading.Thread(target=lambda: (wait_until(lambda: said), os.kill(coordinator, signal.SIGCONT))).start()
+        assert rt.at(1, same, 7) == 7
+    assert said == ["the coordinator has not answered for 15 s"], said
+
+
 @situation
 def place_holds_the_interpreter():
     with rx10.local(places=3) as rt:
@@ -466,7 +556,7 @@ def driver_killed_and_its_child_lives():
         with rt.finish() as f:
             f.spawn(1, nap, LIMIT)
             time.sleep(0.1)
-            others = [rt.where(1), rt.where(2), rt._hub.pid]
+            others = [rt.where(1).process, rt.where(2).process, rt._hub.pid]
             if os.fork() == 0:
                 wait_until(lambda: not any(map(is_alive, others)))
                 print("none is left", flush=True)

@@ -213,8 +213,8 @@ def forth(levels):
 @situation
 def any_thread_of_the_driver():
     with rx10.local(places=4) as rt:
-        assert in_a_thread(rt.places) == (0, 1, 2, 3) and in_a_thread(rt.where, 2) == rt.at(2, os.getpid)
-        assert in_a_thread(rt.where, 0) == os.getpid() and in_a_thread(kind_of_fault, rt.kill, 0) is ValueError
+        assert in_a_thread(rt.places) == (0, 1, 2, 3) and in_a_thread(rt.where, 2).process == rt.at(2, os.getpid)
+        assert in_a_thread(rt.where, 0).process == os.getpid() and in_a_thread(lambda: rt.address) is None and in_a_thread(kind_of_fault, rt.kill, 0) is ValueError
         assert in_a_thread(kind_of_fault, rt.kill, 4) is ValueError and in_a_thread(kind_of_fault, rt.where, 4) is ValueError
         in_a_thread(rt.kill, 3)
         with raises(rx10.DeadPlaces, 3):
@@ -264,7 +264,7 @@ def limit_of_a_finish():
                 tasks = [f.spawn(1, nap, LIMIT), f.spawn(2, nap, LIMIT), f.spawn(3, same, 5)]
                 rt.at(3, same, 0)                   # so that one has ended
         assert [it.lost for it in tasks] == [True, True, False] and tasks[2].result() == 5
-        assert rt.places() == (0, 3, 4, 5, 6) and not is_alive(rt.where(1)), rt.places()
+        assert rt.places() == (0, 3, 4, 5, 6) and not is_alive(rt.where(1).process), rt.places()
         with rt.finish(limit=LIMIT) as f:
             task = f.spawn(3, same, 6)
         assert task.result() == 6

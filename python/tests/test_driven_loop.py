@@ -231,7 +231,7 @@ class Signs(unittest.TestCase):
         world = self.play((10, stop(1)), (100, go_on(1)), (150, stop(1)), (200, go_on(1)), (250, finish))
         told = world.heard("silent", "sign")
         self.assertEqual([it[1:] for it in told], [("silent", 1, loop.SILENT, False), ("sign", 1)] * 2)
-        for (moment, *_), (least, most) in zip(told, ((25, 31), (100, 106), (165, 171), (200, 206))):
+        for (moment, *_), (least, most) in zip(told, ((25, 31), (100, 100.1), (165, 171), (200, 200.1))):
             self.assertTrue(least <= moment <= most, told)
 
     def test_a_silent_place_is_ended_once_where_that_is_wanted(self):

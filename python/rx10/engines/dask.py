@@ -11,13 +11,15 @@ import ctypes
 import itertools
 import secrets
 import socket
+import ssl
 import threading
 from typing import Any, Callable, Dict, List, Optional, Sequence, Set, Tuple
 
-from .. import place
+from .. import place, wire
 from ..errors import Closed, PlaceGone
-from .base import Job
-from .door import TOKEN, Door, knock
+from .base import Job, Where
+from .door import Door, Newcomer, Refused, knock
+from .handshake import Answer, TOKEN
 
 try:
     from distributed import SchedulerPlugin
@@ -50,14 +52,18 @@ class Watch(SchedulerPlugin):
             scheduler.remove_plugin(name=self.name)
 
 
-async def start_place(host: str, port: int, token: bytes, number: int) -> None:
-    """Runs in a worker, in its event loop. Raises OSError where the worker cannot reach the driver."""
-    line = await asyncio.get_running_loop().run_in_executor(None, knock, host, port, token, number)
+async def start_place(host: str, port: int, token: bytes, number: int, secure: bool, dask_worker: Any = None) -> None:
+    """Runs in a worker, in its event loop. Raises OSError where the worker cannot reach the driver.
+
+    `secure`: whether the line is encrypted, by the worker's own settings. Dask fills in `dask_worker`.
+    """
+    tls = dask_worker.security.get_connection_args("worker")["ssl_context"] if secure else None
+    knocked = await asyncio.get_running_loop().run_in_executor(None, knock, host, port, token, number, tls)
     _over[token] = threading.Event()
-    threading.Thread(target=serve, args=(line, token), name="rx10 place", daemon=True).start()
+    threading.Thread(target=serve, args=(knocked.line, token), name="rx10 place", daemon=True).start()
 
 
-def serve(line: socket.socket, token: bytes) -> None:
+def serve(line: wire.SealedLine, token: bytes) -> None:
     """Runs in a worker, in a thread: its place."""
     try:
         with line:
@@ -86,8 +92,20 @@ def keep(token: bytes) -> None:
         over.wait()
 
 
+def context_of(client: Any) -> Optional[ssl.SSLContext]:
+    """What the driver shows to the workers: what a client of this cluster shows to its scheduler. None where the cluster uses no TLS."""
+    if not client.scheduler.address.startswith("tls://"):
+        return None
+    config = client.security.get_tls_config_for_role("client")
+    context = ssl.SSLContext(ssl.PROTOCOL_TLS_SERVER)
+    context.verify_mode = ssl.CERT_REQUIRED
+    context.load_verify_locations(config["ca_file"])
+    context.load_cert_chain(config["cert"], config["key"])
+    return context
+
+
 class Dask(Door):
-    """The engine of `rx10.dask`. A tag is a number with the address of a worker."""
+    """The engine of `rx10.dask`. A tag is a number with the address of a worker, and what runs there."""
 
     def __init__(self, client: Any, workers: Optional[Sequence[str]], spare: Sequence[str], host: Optional[str]) -> None:
         super().__init__(secrets.token_bytes(TOKEN))
@@ -98,11 +116,13 @@ class Dask(Door):
         self._keepers: Dict[int, Any] = {}
         self._without_keeper: Set[int] = set()                              # numbers of dead places
         self._is_over = False
-        self._lock = threading.Lock()                                       # of these three: a keeper may be submitted late
+        self._lock = threading.Lock()                                       # of these four: a keeper may be submitted late
         self._serial = itertools.count(1)
 
     def start(self, job: Job) -> None:
-        self.open(job, self.host or self._own_host(), 0)
+        self.tls = context_of(self.client)
+        self.listen(self.host or self._own_host(), 0)
+        self.open(job)
         self.client.subscribe_topic(self.topic, self._on_event)
         try:
             self.client.register_scheduler_plugin(Watch(self.topic, self.client.id), name=self.topic)
@@ -123,14 +143,20 @@ class Dask(Door):
             self.job.no_place(joiner, "each worker of the cluster has its place")
             return
         address, number = self._unused.pop(0), next(self._serial)
-        self._expected[number] = (address, joiner)
+        with self._lock:
+            self._expected[number] = (address, joiner)
         threading.Thread(target=self._begin, args=(number, address, joiner), daemon=True).start()
 
     def _begin(self, number: int, address: str, joiner: Optional[int]) -> None:
+        where = self.address
+        if where is None:
+            return                                              # the job is over
         try:
-            self.client.run(start_place, *self.listener.getsockname()[:2], self.token, number, workers=[address])
+            self.client.run(start_place, *where, self.token, number, self.tls is not None, workers=[address])
         except Exception as fault:
-            if self._expected.pop(number, None):                # else it has come all the same
+            with self._lock:
+                expected = self._expected.pop(number, None)
+            if expected:                                        # else it has come all the same
                 self.job.no_place(joiner, self._why(f"the worker {address}", fault))
             return
         self._quietly(self._keep, number, address)
@@ -151,9 +177,30 @@ class Dask(Door):
             return f"{who} cannot import rx10: the workers and the scheduler need it, too"
         return f"{who} can do nothing for the job: {fault!r}"
 
-    def whose(self, number: int) -> Tuple[Any, Optional[int]]:
-        address, joiner = self._expected.pop(number)
-        return (number, address), joiner
+    def check(self, number: int) -> None:
+        if number not in self._expected:
+            raise Refused("unwanted", f"no worker was asked to come as number {number}", Answer.NOT_WANTED)
+
+    def came(self, newcomer: Newcomer) -> None:
+        with self._lock:
+            address, joiner = self._expected.pop(newcomer.number, ("", None))
+        if address:
+            self.take_in(newcomer, (newcomer.number, address, newcomer.where), joiner)
+        else:
+            self.turn_out(newcomer)                             # it is late
+
+    def give_up(self, joiner: Optional[int]) -> None:
+        with self._lock:
+            for number in [number for number, wanted in self._expected.items() if wanted[1] == joiner]:
+                self._unused.append(self._expected.pop(number)[0])
+
+    def describe(self) -> str:
+        with self._lock:
+            missing = [address for address, _ in self._expected.values()]
+        return f"no place came from {', '.join(missing) or 'nobody else'}; {super().describe()}"
+
+    def where(self, tag: Any) -> Where:
+        return tag[2]._replace(worker=tag[1])
 
     def _on_event(self, event: Any) -> None:
         """The scheduler tells who comes and goes. The end of a line tells it sooner, where the machine still answers."""
@@ -184,7 +231,7 @@ class Dask(Door):
 
     def stop(self, graceful: bool) -> None:
         topic, keepers = self.topic, self._take_keepers()
-        self.shut()
+        self.shut(graceful)
         if self.client.status != "running":
             return                                              # the scheduler is gone, and each call would wait for it
         self._quietly(self.client.unsubscribe_topic, topic)

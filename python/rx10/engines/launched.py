@@ -1,22 +1,24 @@
 """Places that something else starts, such as mpirun, srun or ssh: each runs `python -m rx10.serve HOST PORT`.
 
-Their deaths are the ends of their lines. What starts them carries no message.
+Their deaths are the ends of their connections. What starts them carries no message.
 """
 
 from __future__ import annotations
 
+import collections
 import itertools
 import os
-import queue
-from typing import Any, Optional, Tuple
+import threading
+from typing import Any, Deque, Optional, Tuple
 
-from .base import Job
-from .door import TOKEN, Door
+from .base import Job, Where
+from .door import Door, Newcomer
+from .handshake import TOKEN
+from .tls import Tls, driver_context
 
 
-def token() -> bytes:
-    """The secret that the driver and its places share."""
-    text = os.environ.get("RX10_TOKEN", "")
+def read_token(text: str) -> bytes:
+    """The secret that the driver and its places share, from its digits."""
     try:
         if len(bytes.fromhex(text)) == TOKEN:
             return bytes.fromhex(text)
@@ -25,27 +27,58 @@ def token() -> bytes:
     raise ValueError(f"set RX10_TOKEN to {2 * TOKEN} random hexadecimal digits, the same at the driver and at its places")
 
 
-class Launched(Door):
-    """The engine of `rx10.launched`."""
+def token() -> bytes:
+    """The secret as the environment has it."""
+    return read_token(os.environ.get("RX10_TOKEN", ""))
 
-    def __init__(self, host: str, port: int) -> None:
-        super().__init__(token())
-        self.host, self.port = host, port
-        self._wanted: queue.Queue[Optional[int]] = queue.Queue()
+
+class Launched(Door):
+    """The engine of `rx10.launched`. The port is open from the beginning, so that places may be started before the job is entered."""
+
+    def __init__(self, host: str, port: int, tls: Optional[Tls] = None) -> None:
+        super().__init__(token(), driver_context(tls))
+        self._wanted: Deque[Optional[int]] = collections.deque()
+        self._ready: Deque[Newcomer] = collections.deque()      # they wait for a job that is not ready, or stand in for a lost one later
         self._serial = itertools.count(1)
+        self.listen(host, port)
 
     def start(self, job: Job) -> None:
-        self.open(job, self.host, self.port)
+        self.open(job)
 
     def add(self, joiner: Optional[int]) -> None:
-        self._wanted.put(joiner)
+        self.soon(lambda: self._want(joiner))
 
-    def whose(self, number: int) -> Tuple[Any, Optional[int]]:
-        """The next place, once one is wanted: some come before the job is ready, or to stand in for a lost one later."""
-        return next(self._serial), self._wanted.get()
+    def _want(self, joiner: Optional[int]) -> None:
+        self._wanted.append(joiner)
+        self._match()
+
+    def _match(self) -> None:
+        while self._wanted and self._ready:
+            newcomer = self._ready.popleft()
+            self.take_in(newcomer, (next(self._serial), newcomer.where), self._wanted.popleft())
+
+    def came(self, newcomer: Newcomer) -> None:
+        self._ready.append(newcomer)
+        self._match()
+
+    def left(self, newcomer: Newcomer) -> None:
+        self._ready.remove(newcomer)
+
+    def give_up(self, joiner: Optional[int]) -> None:
+        done = threading.Event()
+
+        def forget() -> None:
+            if joiner in self._wanted:
+                self._wanted.remove(joiner)
+            done.set()
+        self.soon(forget)
+        done.wait(1)
+
+    def where(self, tag: Any) -> Where:
+        return tag[1]
 
     def ended(self, tag: Any) -> None:
         pass
 
     def stop(self, graceful: bool) -> None:
-        self.shut()
+        self.shut(graceful)

@@ -13,7 +13,7 @@ import time
 from typing import Dict, List, Optional
 
 from .. import pickles, place
-from .base import Engine, Job
+from .base import Engine, Job, Where
 
 PR_SET_PDEATHSIG = 1
 PATIENCE = 5                    # seconds in which a place ends by itself at the job's end
@@ -41,7 +41,7 @@ class Local(Engine):
         # A forked place would hold the lines of all others open; a fork server would be the parent with which a place ends.
         self._context = multiprocessing.get_context("spawn")
         self._processes: Dict[int, multiprocessing.process.BaseProcess] = {}    # those whose files are open here
-        self._numbers: List[int] = []
+        self._begun: Dict[int, Optional[int]] = {}              # by process: the task that wanted the place
         self._lock, self._stopped = threading.Lock(), False
 
     def start(self, job: Job) -> None:
@@ -63,7 +63,7 @@ class Local(Engine):
                 process = self._context.Process(target=main, args=(far, os.getpid()), name="rx10 place")
                 pid = self._start(process)
                 self._processes[pid] = process
-                self._numbers.append(pid)
+                self._begun[pid] = joiner
                 if hasattr(os, "pidfd_open"):
                     pidfd = os.pidfd_open(pid)
             self._job.connected(near, pidfd, pid, joiner)
@@ -85,6 +85,20 @@ class Local(Engine):
                 module.__file__ = name
         assert process.pid is not None
         return process.pid
+
+    def give_up(self, joiner: Optional[int]) -> None:
+        with self._lock:
+            came = self._job.tags()
+            for pid, wanted_by in self._begun.items():
+                if wanted_by == joiner and pid not in came and pid in self._processes:
+                    self._processes[pid].kill()
+
+    def describe(self) -> str:
+        came = self._job.tags()
+        return "processes that said nothing: " + ", ".join(str(pid) for pid in self._begun if pid not in came)
+
+    def where(self, tag: int) -> Where:
+        return Where(socket.gethostname(), tag)
 
     def ended(self, tag: int) -> None:
         with self._lock:
@@ -110,4 +124,4 @@ class Local(Engine):
 
     def processes(self) -> List[int]:
         """The numbers of the processes that were started, ended ones too."""
-        return list(self._numbers)
+        return list(self._begun)

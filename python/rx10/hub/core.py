@@ -43,8 +43,8 @@ class Outside(Protocol):
     def turn_away(self, newcomer: Any, why: str) -> None:
         """The newcomer gets no number."""
 
-    def start_place(self, joiner: Optional[int]) -> None:
-        """Has the engine start one more place, for the task with this key, or for the job's beginning."""
+    def start_place(self, joiner: Optional[int], wait: Optional[float] = None) -> None:
+        """Has the engine start one more place, for the join with this number, or for the job's beginning. `wait`: seconds in which it must come."""
 
     def end_place(self, place: int) -> None:
         """Ends a place. Its end is told by `Core.ended` later."""
@@ -76,6 +76,8 @@ class Core:
         self.scopes: Dict[int, Scope] = {0: self.root}
         self.watched: Dict[int, Scope] = {}                     # finishes whose openers want to know how far they are
         self.seats: Dict[int, Seat] = {0: Seat({MAIN})}
+        self.joins: Dict[Optional[int], int] = {}               # by number: the keys of the tasks that wait for a place
+        self._next_join = 0
         self.over = False
         self.late = 0                                           # answers that came for tasks which a death had struck
         self.silent: Set[int] = set()                           # places that give no sign of life
@@ -152,8 +154,7 @@ class Core:
             self.ended(place)
         self._send(place, ("hello", place, self.living(), len(self.seats), self.options.threads))
         self._tell_places()
-        if joiner is not None:
-            self._deliver(joiner, ("joined", joiner, place, None))
+        self._answer_join(joiner, place, None)
         if len(self.seats) == self.options.places:
             self._ready()
 
@@ -167,7 +168,13 @@ class Core:
         """A place that was wanted cannot be had."""
         if joiner is None:
             raise Closed(why)
-        self._deliver(joiner, ("joined", joiner, None, why))
+        self._answer_join(joiner, None, why)
+
+    def _answer_join(self, joiner: Optional[int], place: Optional[int], why: Optional[str]) -> None:
+        """Tells the task that waits how its join went. A join that was answered is answered no more."""
+        key = self.joins.pop(joiner, None)
+        if key is not None:
+            self._deliver(key, ("joined", key, place, why))
 
     def _tell_places(self) -> None:
         living = self.living()
@@ -441,11 +448,13 @@ class Core:
         self._send(0, ("released", MAIN, *self._outcome(self.root, read_release(words[1:]))))
         self.over = True
 
-    def _take_join(self, task: Task) -> None:
+    def _take_join(self, task: Task, wait: Optional[float]) -> None:
+        self._next_join += 1
+        self.joins[self._next_join] = task.key
         if len(self.seats) >= self._most:
-            self.no_place(task.key, self._full())
+            self.no_place(self._next_join, self._full())
         else:
-            self.outside.start_place(task.key)
+            self.outside.start_place(self._next_join, wait)
 
     def _take_kill(self, _place: int, victim: int) -> None:
         seat = self.seats.get(victim)

@@ -25,7 +25,7 @@ from functools import partial
 from typing import Any, Callable, Deque, Dict, List, NamedTuple, Optional, Set, TextIO, Tuple
 
 from ..errors import Closed, CoordinatorLost
-from ..wire import Frames, frame
+from ..wire import Frames, frame, is_silent
 from .coordinator import Coordinator, Pipes, Program
 from .core import Core, Options
 from .peer import Peer, Process
@@ -34,6 +34,7 @@ from .timers import Timer, Timers
 PROGRESS = 0.2                  # seconds between two tellings of how far a watched finish is
 ASK = 5.0                       # seconds between two questions for a sign of life
 SILENT = 15.0                   # seconds without one after which the driver is told
+LARGE = 1 << 25                 # bytes that have waited for a place, after which the memory is given back
 LATE = 0.5                      # seconds that a turn may take longer than it slept: what is above was no time in which the hub looked
 NOT_STARTED = ("a place ended while it started. If it says above that the main module has no guard, put what starts the job under "
                "`if __name__ == \"__main__\":`")
@@ -70,6 +71,13 @@ class System:
     def line(self, file: int) -> socket.socket:
         """A place's line."""
         return socket.socket(fileno=file)
+
+    def give_back(self) -> None:
+        """Gives memory that is free back to the system. The C library keeps much of what it had for messages that lay side by side."""
+        import ctypes                                           # few jobs need it
+        trim = getattr(ctypes.CDLL(None), "malloc_trim", None)
+        if trim is not None:
+            trim(0)
 
     def process(self, file: int) -> Process:
         """A place's process."""
@@ -186,15 +194,23 @@ class Hub:
             self.to_driver("silent", peer.place, limit, True)
             self.end_place(peer.place)
             return
-        if (silence >= SILENT) != peer.is_silent:
-            peer.is_silent = not peer.is_silent
-            self.core.note_sign(peer.place, peer.is_silent)
-            self.to_driver(*(("silent", peer.place, SILENT, False) if peer.is_silent else ("sign", peer.place)))
+        if silence >= SILENT and not peer.is_silent:
+            peer.is_silent = True
+            self.core.note_sign(peer.place, True)
+            self.to_driver("silent", peer.place, SILENT, False)
         if not silence:
             self.send(peer.place, ("ping",))
             peer.asked = self.now
         moments = [peer.asked + most for most in (SILENT, limit) if most is not None and silence < most]
         self.timers.at(min([self.now + self.ask_every, *moments]), partial(self.look_at, peer))
+
+    def gives_sign(self, peer: Peer) -> None:
+        """Something came from a place, or it reads."""
+        peer.heard = self.now
+        if peer.is_silent:
+            peer.is_silent = False
+            self.core.note_sign(peer.place, False)
+            self.to_driver("sign", peer.place)
 
     # The driver's engine.
 
@@ -212,12 +228,19 @@ class Hub:
         for kind, *rest in self.control_frames.feed(data):
             self._CONTROL[kind](self, *rest)
 
-    def on_connected(self, tag: Any, joiner: Optional[int], files: int) -> None:
-        """A place has its line: the first file that came along. The second one, if there is one, tells the end of its process."""
+    def on_connected(self, tag: Any, joiner: Optional[int], files: int, key: Optional[bytes]) -> None:
+        """A place has its line: the first file that came along. The second one, if there is one, tells the end of its process; where the line
+        is sealed it is the place's life."""
         sock = self.system.line(self.files.popleft())
-        peer = Peer(sock, self.system.process(self.files.popleft()) if files > 1 else None, tag, joiner)
+        second = self.files.popleft() if files > 1 else None
+        if key is not None:
+            peer = Peer(sock, None, tag, joiner, key, self.system.line(second))
+        else:
+            peer = Peer(sock, None if second is None else self.system.process(second), tag, joiner)
         self.coming.add(peer)
         self.selector.register(sock, selectors.EVENT_READ, Source(partial(self.read, peer), peer))
+        if peer.life is not None:
+            self.selector.register(peer.life, selectors.EVENT_READ, Source(partial(self.read_life, peer), None))
         if peer.process is not None:
             self.selector.register(peer.process, selectors.EVENT_READ, Source(partial(self.read_to_the_end, peer), None))
 
@@ -247,7 +270,7 @@ class Hub:
         if messages is None:
             self.hang_up(peer)
             return False
-        peer.heard = self.now
+        self.gives_sign(peer)
         if messages and not peer.was_ready:
             self.check_ready(peer, *messages.pop(0)[1:])
         if messages and peer.place is not None:
@@ -270,6 +293,17 @@ class Hub:
             pass
         self.hang_up(peer)
 
+    def read_life(self, peer: Peer) -> None:
+        """The place's machine is silent, or the place has hung up: then its line tells that itself, after all that was sent on it."""
+        if peer.life is None:
+            return
+        silent = is_silent(peer.life)
+        if silent:
+            self.read_to_the_end(peer)
+        elif silent is False:
+            self.selector.unregister(peer.life)
+            peer.bury()
+
     def hang_up(self, peer: Peer) -> None:
         """Nothing more is read from this line, and the death is told after all that came before. Where the process is known it is killed
         first, so that what is told dead is dead."""
@@ -280,6 +314,8 @@ class Hub:
         self.selector.unregister(peer.sock)
         if peer.process is not None:
             self.selector.unregister(peer.process)
+        if peer.life is not None:
+            self.selector.unregister(peer.life)
         peer.hang_up()
         self.unsent.pop(peer, None)
         self.to_driver("ended", peer.tag)
@@ -291,8 +327,8 @@ class Hub:
 
     def has_room(self, peer: Peer) -> None:
         """Its line has room. It reads, where there was none."""
-        peer.heard = self.now
         if peer.sock is not None:
+            self.gives_sign(peer)
             self.unsent[peer] = None
 
     def flush(self) -> None:
@@ -302,6 +338,9 @@ class Hub:
             if peer.sock is None:
                 continue
             peer.flush()
+            if not peer.unsent and peer.most_unsent > LARGE:
+                peer.most_unsent = 0
+                self.system.give_back()
             if peer.place and peer.is_behind(self.settings.backlog):
                 self.to_driver("behind", peer.place, peer.unsent)
                 self.end_place(peer.place)
@@ -329,7 +368,7 @@ class Hub:
         newcomer.place = place
         self.coming.discard(newcomer)
         self.peers[place] = newcomer
-        self.to_driver("joined", place, newcomer.tag)
+        self.to_driver("joined", place, newcomer.tag, newcomer.joiner)
         self.timers.at(self.now, partial(self.look_at, newcomer))
         return newcomer.sock is not None
 
@@ -340,8 +379,8 @@ class Hub:
             newcomer.flush_at_last(2)
             self.hang_up(newcomer)
 
-    def start_place(self, joiner: Optional[int]) -> None:
-        self.to_driver("start", joiner)
+    def start_place(self, joiner: Optional[int], wait: Optional[float] = None) -> None:
+        self.to_driver("start", joiner, wait)
 
     def end_place(self, place: int) -> None:
         peer = self.peers[place]

@@ -8,7 +8,7 @@ import signal
 import socket
 from typing import Any, Deque, List, Optional
 
-from ..wire import Frames, frame
+from ..wire import Frames, Seal, frame, give_up_soon
 
 RECEIVE = 1 << 18               # bytes that are read at once
 GATHER = 1 << 16                # small messages are sent together up to this many bytes
@@ -37,10 +37,15 @@ class Process:
 
 
 class Peer:
-    """A place's line, and its process where the engine has that."""
+    """A place's line, and its process where the engine has that. A line with a key is sealed, and has a life."""
 
-    def __init__(self, sock: socket.socket, process: Optional[Process] = None, tag: Any = None, joiner: Optional[int] = None) -> None:
+    def __init__(self, sock: socket.socket, process: Optional[Process] = None, tag: Any = None, joiner: Optional[int] = None,
+                 key: Optional[bytes] = None, life: Optional[socket.socket] = None) -> None:
         sock.setblocking(False)
+        if life is not None:
+            life.setblocking(False)
+        self.life = life                                        # None once the place has hung up
+        self.seal = None if key is None else Seal(key, at_hub=True)
         self.sock: Optional[socket.socket] = sock               # None once the line was hung up
         self.process, self.tag, self.joiner = process, tag, joiner
         self.place: Optional[int] = None                        # once it has a number
@@ -48,7 +53,7 @@ class Peer:
         self.is_ended = False                                   # the hub has ended it, and nothing more is sent to it
         self.asked, self.heard = float("-inf"), float("-inf")   # when it was asked for a sign of life last, and gave one
         self.is_silent = False                                  # the driver was told so
-        self.unsent = 0                                         # bytes that wait to be sent
+        self.unsent = self.most_unsent = 0                      # bytes that wait to be sent, and the most that did since memory was given back
         self._frames = Frames()
         self._out: Deque[memoryview] = collections.deque()      # what waits, some of it gathered
         self._sizes: Deque[int] = collections.deque()           # by message how much of it waits
@@ -58,7 +63,10 @@ class Peer:
         if self.is_ended or self.sock is None:
             return
         data = frame(message)
+        if self.seal is not None:
+            data = self.seal.close(data)
         self.unsent += len(data)
+        self.most_unsent = max(self.unsent, self.most_unsent)
         self._out.append(memoryview(data))
         self._sizes.append(len(data))
 
@@ -72,11 +80,12 @@ class Peer:
             return None
         try:
             data = self.sock.recv(RECEIVE)
+            content = data if self.seal is None else self.seal.open(data)
         except BlockingIOError:
             raise
-        except OSError:
+        except OSError:                                         # a forged record, too: nothing after it is believed
             return None
-        return self._frames.feed(data) if data else None
+        return self._frames.feed(content) if data else None
 
     def flush(self) -> None:
         """Sends what the line takes now."""
@@ -122,6 +131,14 @@ class Peer:
             if not self._sizes[0]:
                 self._sizes.popleft()
 
+    def bury(self) -> None:
+        """The place has hung up. What it had sent still comes, and where the network is cut now, the line ends after a while."""
+        if self.life is not None:
+            self.life.close()
+            self.life = None
+        if self.sock is not None:
+            give_up_soon(self.sock)
+
     def forget(self) -> None:
         """Drops what waits."""
         self._out.clear()
@@ -133,6 +150,9 @@ class Peer:
         if self.sock is not None:
             self.sock.close()
             self.sock = None
+        if self.life is not None:
+            self.life.close()
+            self.life = None
         self.kill()
         if self.process is not None:
             self.process.close()

@@ -214,7 +214,8 @@ def forth(levels):
 def any_thread_of_the_driver():
     with rx10.local(places=4) as rt:
         assert in_a_thread(rt.places) == (0, 1, 2, 3) and in_a_thread(rt.where, 2).process == rt.at(2, os.getpid)
-        assert in_a_thread(rt.where, 0).process == os.getpid() and in_a_thread(lambda: rt.address) is None and in_a_thread(kind_of_fault, rt.kill, 0) is ValueError
+        assert in_a_thread(rt.where, 0).process == os.getpid() and in_a_thread(lambda: rt.address) is None
+        assert in_a_thread(kind_of_fault, rt.kill, 0) is ValueError
         assert in_a_thread(kind_of_fault, rt.kill, 4) is ValueError and in_a_thread(kind_of_fault, rt.where, 4) is ValueError
         in_a_thread(rt.kill, 3)
         with raises(rx10.DeadPlaces, 3):

@@ -7,7 +7,8 @@
 The first writes bench/gate.txt: a line for the run (its date, the machine, wall and processor minutes), and a line for each crate with the
 processor seconds of its proof, of its tests, of the seed of its must-fail edits (a check of the crate as it stands, with which they begin)
 and of the edits. What `rt ci` has kept from earlier runs takes nothing, so a whole table wants `--anew` or a machine where nothing is kept.
-docs/costs.md shows the table. The second adds the twenty slowest functions behind a line `functions`. Linux alone: it reads /proc.
+docs/costs.md shows the table. A crate that takes a fifth more than in the table of before is told by a line `dearer:`. The second adds the
+twenty slowest functions behind a line `functions`. Linux alone: it reads /proc. `.ci/run --figures` calls the first in place of `rt ci`.
 """
 
 import argparse
@@ -27,6 +28,8 @@ TABLE = TOP / "bench" / "gate.txt"
 TICK = os.sysconf("SC_CLK_TCK")
 KINDS = ("proof", "tests", "seed", "edits")
 SLOWEST = 20
+DEARER = 1.2                    # of what a crate took before; then a line tells it
+LEAST = 10                      # seconds by which it has to be dearer, too
 
 
 def words_of(pid):
@@ -117,8 +120,26 @@ def crates():
     return [it.split(":")[0].split()[0] for it in lines if ":" in it]
 
 
+def read_table(text):
+    """The seconds of each crate of a table, by kind."""
+    rows = (line.split() for line in text.split("functions\n")[0].splitlines()[1:])
+    return {row[0]: [int(it) for it in row[1:]] for row in rows if len(row) == 1 + len(KINDS) and row[1].isdigit()}
+
+
+def dearer(before, now):
+    """A line for each crate that takes a fifth more than before. What was kept took nothing, so only kinds that took something count."""
+    found = []
+    for crate, row in now.items():
+        pairs = [(a, b) for a, b in zip(before.get(crate, row), row) if b]
+        was, took = sum(a for a, _ in pairs), sum(b for _, b in pairs)
+        if crate != "all" and took > DEARER * was and took - was > LEAST:
+            found.append("dearer: %s took %d s of a processor, and %d s in the table of before" % (crate, took, was))
+    return found
+
+
 def gate(words):
     """Runs the gate, and writes the table."""
+    before = read_table(TABLE.read_text()) if TABLE.exists() else {}
     began = time.time()
     run = subprocess.Popen(["rt", "ci", *words], cwd=TOP, stdin=subprocess.DEVNULL)
     sampler = Sampler(run.pid)
@@ -137,8 +158,9 @@ def gate(words):
         if any(row):
             lines.append(" ".join([crate, *map(str, row)]))
     lines.append(" ".join(["all", *(str(round(sum(n for (_, it), n in sums.items() if it == kind))) for kind in KINDS)]))
-    TABLE.write_text("\n".join(lines) + "\n")
-    print("\n".join(lines))
+    text = "\n".join(lines) + "\n"
+    TABLE.write_text(text)
+    print("\n".join([*lines, *dearer(before, read_table(text))]))
     return status
 
 

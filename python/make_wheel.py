@@ -1,15 +1,17 @@
 #!/usr/bin/env python3
 """Makes the wheel rx10-VERSION-py3-none-linux_x86_64.whl, with the coordinator inside, by the standard library alone.
 
-    make_wheel.py FOLDER [--coordinator PROGRAM]
+    make_wheel.py FOLDER [--coordinator PROGRAM] [--unproved]
 
-PROGRAM is the one that the repository has built, where left out. The last line is the path of the wheel. The same sources and the same
-program give the same bytes.
+PROGRAM is the one that the repository has proved and built, where left out. With --unproved it is the one that `./rx10 coordinator` has compiled
+without proofs: the version is then VERSION+unproved, and `python -m rx10` says that the coordinator is not proved. The last line is the path of
+the wheel. The same sources and the same program give the same bytes.
 """
 
 import argparse
 import base64
 import hashlib
+import os
 import pathlib
 import sys
 import zipfile
@@ -23,8 +25,8 @@ PLAIN, RUN = 0o100644, 0o100755
 sys.dont_write_bytecode = True
 sys.path.insert(0, str(HERE))
 
-from rx10.program import NAME         # noqa: E402
-from rx10.version import __version__  # noqa: E402
+from rx10.program import MARK, NAME, is_unproved, kept_unproved  # noqa: E402
+from rx10.version import __version__                             # noqa: E402
 
 METADATA = """Metadata-Version: 2.1
 Name: rx10
@@ -63,34 +65,61 @@ class Wheel:
         self.file.close()
 
 
-def make(folder, coordinator):
-    """The path of the wheel, in this folder."""
-    path = pathlib.Path(folder, f"rx10-{__version__}-{TAG}.whl")
-    wheel, info = Wheel(path), f"rx10-{__version__}.dist-info"
+def make(folder, coordinator, version):
+    """The path of the wheel of this version with these bytes as the coordinator, in this folder: whole, or not there."""
+    path = pathlib.Path(folder, f"rx10-{version}-{TAG}.whl")
+    half = path.with_name(f".{path.name}.{os.getpid()}")
+    try:
+        fill(half, coordinator, version)
+        os.replace(half, path)
+    finally:
+        half.unlink(missing_ok=True)
+    return path
+
+
+def fill(path, coordinator, version):
+    """Writes all of the wheel."""
+    wheel, info = Wheel(path), f"rx10-{version}.dist-info"
     package = HERE / "rx10"
     for source in sorted(it for it in package.rglob("*") if it.suffix in (".py", ".typed")):
         wheel.add(f"rx10/{source.relative_to(package).as_posix()}", source.read_bytes())
-    wheel.add(f"rx10/{NAME}", pathlib.Path(coordinator).read_bytes(), RUN)
+    wheel.add(f"rx10/{NAME}", coordinator, RUN)
     licences = "".join(f"License-File: {name}\n" for name in LICENCES)
     page = (HERE / "README.md").read_text(encoding="utf-8")
-    wheel.add(f"{info}/METADATA", METADATA.format(version=__version__, licences=licences, page=page).encode())
+    wheel.add(f"{info}/METADATA", METADATA.format(version=version, licences=licences, page=page).encode())
     wheel.add(f"{info}/WHEEL", f"Wheel-Version: 1.0\nGenerator: rx10\nRoot-Is-Purelib: false\nTag: {TAG}\n".encode())
     for name in LICENCES:
         wheel.add(f"{info}/{name}", (HERE.parent / name).read_bytes())
     wheel.close(info)
-    return path
+
+
+def fault(folder, coordinator, unproved):
+    """Why no wheel can be made of this coordinator; None where one can."""
+    if not coordinator.is_file():
+        how = "`./rx10 coordinator` compiles one" if unproved else "`rt run` in crates/rx10_coordinator proves and builds one"
+        return f"there is no {coordinator}" + (f"; {how}" if coordinator in (BUILT, pathlib.Path(kept_unproved())) else "")
+    if not pathlib.Path(folder).is_dir():
+        return f"there is no {folder}"
+    if is_unproved(str(coordinator)) and not unproved:
+        return f"{coordinator} was compiled without proofs; with --unproved a wheel is made of it, and its name says so"
+    return None
 
 
 def main():
     parser = argparse.ArgumentParser(description=__doc__.split("\n", maxsplit=1)[0])
     parser.add_argument("folder")
-    parser.add_argument("--coordinator", default=BUILT)
+    parser.add_argument("--coordinator", metavar="PROGRAM", help="the program to put in, in place of the one that the repository has")
+    parser.add_argument("--unproved", action="store_true", help="take one that was compiled without proofs, and say so in the wheel's name")
     given = parser.parse_args()
-    if not pathlib.Path(given.coordinator).is_file() or not pathlib.Path(given.folder).is_dir():
-        missing = given.folder if pathlib.Path(given.coordinator).is_file() else given.coordinator
-        sys.stderr.write(f"make_wheel: there is no {missing}\n")
+    coordinator = pathlib.Path(given.coordinator or (kept_unproved() if given.unproved else BUILT))
+    why = fault(given.folder, coordinator, given.unproved)
+    if why:
+        sys.stderr.write(f"make_wheel: {why}\n")
         return 1
-    print(make(given.folder, given.coordinator))
+    data, version = coordinator.read_bytes(), __version__
+    if given.unproved:
+        data, version = data if data.endswith(MARK) else data + MARK, f"{version}+unproved"
+    print(make(given.folder, data, version))
     return 0
 
 

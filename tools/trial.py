@@ -1,17 +1,19 @@
 #!/usr/bin/env python3
-"""Tries the examples, the tools and hostile use over the program that RX10_PROGRAM names: what `./rx10 test` does.
+"""Tries all that needs no proof, over the programs that RX10_PROGRAM and RX10_COORDINATOR name: what `./rx10 test` does.
 
 usage: tools/trial.py [PART..]
 
-It runs the modules of tools/tests and the parts of tests/hostile side by side in processes, as many at a time as there are processors and one
-more, since some wait. The parts of hostile use may be named; without any it takes all. Each process ends with a line `N passed, N failed`, and
-so does this one. Nothing here is proved.
+It runs the modules of tools/tests, the parts of tests/hostile, the quick modules of python/tests, and by the kit's rt, where it is on the path,
+the format of all crates and the program that has no other test. They run side by side in processes, as many at a time as there are processors
+and one more, since some wait. The parts of hostile use may be named; without any it takes all. Each process ends with a line
+`N passed, N failed`, and so does this one. What is left out is told by name. Nothing here is proved.
 """
 
 import concurrent.futures
 import os
 import pathlib
 import re
+import shutil
 import signal
 import subprocess
 import sys
@@ -29,6 +31,10 @@ FIRST = ["test_launcher", "test_draw", "test_package", "test_why", "test_page"]
 # The verdicts of hostile use try this too, on as many traces.
 AGAIN = "test_program_and_model_agree"
 COORDINATOR = os.environ.get("RX10_COORDINATOR") or TOP / "crates" / "rx10_coordinator" / "out" / "rx10_coordinator"
+# Modules of python/tests that take minutes, or what few machines have: `python/tests/run.py` runs these too.
+NOT_QUICK = {"test_jobs", "test_mutants", "test_dask", "test_cut"}
+# The program that neither the tools nor hostile use run.
+BY_HAND = "tasks_by_hand"
 
 
 def jobs(parts):
@@ -36,6 +42,11 @@ def jobs(parts):
     known = [part for row in HOSTILE for part in row if part != "coordinator" or os.path.exists(COORDINATOR)]
     taken = [it for it in known if it in parts] if parts else known
     found = []
+    if shutil.which("rt"):
+        found += [("rt try: " + BY_HAND, [HERE / "kit_checks.py", "try", BY_HAND]), ("rt fmt: all crates", [HERE / "kit_checks.py", "format"])]
+    if os.path.exists(COORDINATOR):
+        for name in sorted({it.stem for it in (TOP / "python" / "tests").glob("test_*.py")} - NOT_QUICK):
+            found.append(("Python: " + name, [TOP / "python" / "tests" / "run.py", name]))
     for row in HOSTILE:
         mine = [it for it in row if it in taken]
         if mine:
@@ -49,7 +60,7 @@ def jobs(parts):
 
 def counted(text):
     """How many have passed and failed by the last line of a text; one that has no such line has failed."""
-    found = re.search(r"^(\d+) passed, (\d+) failed\n?\Z", text, re.M)
+    found = re.search(r"^(\d+) passed, (\d+) failed(?:, \d+ skipped)?\n?\Z", text, re.M)
     return (int(found[1]), int(found[2])) if found else (0, 1)
 
 
@@ -97,6 +108,18 @@ def report(name, text, took):
     return counted(text)
 
 
+def left_out(parts):
+    """What is not tried here, and why, a line each."""
+    if not shutil.which("rt"):
+        yield "left out: rt fmt and rt try: the command rt of the Rattle kit is not on the path"
+    if not os.path.exists(COORDINATOR):
+        yield "left out: the Python package and the coordinator: there is no coordinator"
+    if parts:
+        yield "left out: hostile use but for %s: the other parts need a program without run-time checks, of `./rx10 build`" % ", ".join(parts)
+    yield "left out: %s: `python3 python/tests/run.py` runs them" % ", ".join("Python: " + it for it in sorted(NOT_QUICK))
+    yield "left out: all proofs, tests of crates and must-fail edits: `rt ci` checks them"
+
+
 def main(parts):
     trial, passed, failed = Trial(), 0, 0
     with concurrent.futures.ThreadPoolExecutor(len(os.sched_getaffinity(0)) + 1) as pool:
@@ -108,6 +131,8 @@ def main(parts):
         except KeyboardInterrupt:
             trial.stop()
             return 130
+    for line in left_out(parts):
+        print(line)
     print("%d passed, %d failed" % (passed, failed))
     return 1 if failed or not passed else 0
 

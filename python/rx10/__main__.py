@@ -1,8 +1,12 @@
-"""python -m rx10: the versions, and what was found where. Exit status: 0 where a job can be started, else 1."""
+"""python -m rx10: the versions, and what was found where. Exit status: 0 where a job can be started, else 1.
+
+In a clone of the repository that has no coordinator yet, the launcher compiles one without proofs first.
+"""
 
 from __future__ import annotations
 
 import importlib
+import os
 import platform
 import subprocess
 import sys
@@ -25,14 +29,27 @@ def greeting(path: str) -> Tuple[Optional[str], str]:
     return line, ""
 
 
+def find() -> program.Program:
+    """The coordinator. In a clone of the repository that has none the launcher compiles one, and says so on standard error."""
+    try:
+        return program.find()
+    except FileNotFoundError:
+        launcher = os.path.join(program.TOP, "rx10")
+        if os.environ.get("RX10_COORDINATOR") or not os.path.isfile(launcher):
+            raise
+        subprocess.run([launcher, "coordinator", "--version"], stdin=subprocess.DEVNULL, stdout=subprocess.DEVNULL, check=False)
+        return program.find()
+
+
 def coordinator() -> Tuple[str, bool]:
     """What was found of the coordinator, and whether it serves."""
     try:
-        found = program.find()
+        found = find()
+        proved = ", not proved" if found.is_unproved() else ""
     except OSError as fault:
         return str(fault), False
     line, why = greeting(found.path)
-    return f"{found.path} ({found.where}): {line or why}", line is not None
+    return f"{found.path} ({found.where}{proved}): {line or why}", line is not None
 
 
 def module(name: str) -> str:

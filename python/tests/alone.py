@@ -54,9 +54,9 @@ def run(words, limit=LIMIT, env=None, stdin=None):
     return Result(status, output, names)
 
 
-def marked(mark):
-    """The processes with this mark."""
-    wanted = f"{MARK}={mark}".encode()
+def marked(mark, name=MARK):
+    """The processes with this mark in their environment, under this name."""
+    wanted = f"{name}={mark}".encode()
     found = []
     for pid in filter(str.isdigit, os.listdir("/proc")):
         try:
@@ -86,11 +86,11 @@ def name_of(pid):
         return str(pid)
 
 
-def end(pids):
+def end(pids, number=signal.SIGKILL):
     """Kills processes that a test started."""
     for pid in pids:
         try:
-            os.kill(pid, signal.SIGKILL)
+            os.kill(pid, number)
         except ProcessLookupError:
             pass
 

@@ -1,12 +1,13 @@
 #!/usr/bin/env python3
-"""Tests of the Python package. Run it from anywhere: python3 python/tests/run.py [NAME ..]
+"""Tests of the Python package. Run it from anywhere: python3 python/tests/run.py [--first] [NAME ..]
 
 It takes the coordinator that the package finds (RX10_COORDINATOR names one). Where there is none the model of these tests stands in for it,
-and that is said. What is not on this machine is skipped by name; nothing is installed. No terminal is needed, and the machine may be busy:
-what a test waits for ends the wait, and no test measures speed. A name is that of a test module, class or test, as `test_driven`. The last
-line is `N passed, N failed`.
+and that is said. What is not on this machine is skipped by name; nothing is installed (`setup` does that). No terminal is needed, and the
+machine may be busy: what a test waits for ends the wait, and no test measures speed. A name is that of a test module, class or test, as
+`test_driven`. With `--first` the first test that fails is the last. The last line is `N passed, N failed, N skipped`.
 """
 
+import argparse
 import os
 import pathlib
 import signal
@@ -37,19 +38,23 @@ def with_coordinator(folder):
         print(f"skipped: the proved coordinator, for which the model stands in: {fault}", flush=True)
 
 
-def main(names):
+def main(words):
+    parser = argparse.ArgumentParser(prog="python/tests/run.py", description=__doc__.split("\n", maxsplit=1)[0])
+    parser.add_argument("names", nargs="*", metavar="NAME")
+    parser.add_argument("--first", action="store_true", help="end with the first test that fails")
+    given = parser.parse_args(words)
     os.environ.pop("PYTHONDONTWRITEBYTECODE", None)             # some thousand processes would each compile the package anew
     # (where the tests run in the background, a Ctrl-C is ignored from the start, and so it would be in all that they start)
     signal.signal(signal.SIGINT, signal.default_int_handler)
     with tempfile.TemporaryDirectory(prefix="rx10-tests-") as folder:
         with_coordinator(folder)
         loader = unittest.TestLoader()
-        tests = loader.loadTestsFromNames(names) if names else loader.discover(str(HERE))
-        result = unittest.TextTestRunner(stream=sys.stdout, verbosity=0).run(tests)
+        tests = loader.loadTestsFromNames(given.names) if given.names else loader.discover(str(HERE))
+        result = unittest.TextTestRunner(stream=sys.stdout, verbosity=0, failfast=given.first).run(tests)
     for test, why in result.skipped:
         print(f"skipped: {test.id()}: {why}")
     failed = len({it[0].id() for it in [*result.failures, *result.errors]}) + len(result.unexpectedSuccesses)
-    print(f"{result.testsRun - failed - len(result.skipped)} passed, {failed} failed")
+    print(f"{result.testsRun - failed - len(result.skipped)} passed, {failed} failed, {len(result.skipped)} skipped")
     return 1 if failed or not result.testsRun else 0
 
 

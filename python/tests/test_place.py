@@ -4,12 +4,13 @@ import pickle
 import queue
 import socket
 import threading
+import time
 import unittest
 
 from rx10 import errors, pickles, wire
 from rx10.place import Place, Task, time_of
 
-LIMIT = 60                      # seconds after which a test is taken to hang
+LIMIT = 20                      # seconds after which a test is taken to hang
 
 
 def same(thing):
@@ -116,9 +117,10 @@ class APlace(unittest.TestCase):
             self.assertRaises(error, hub.place.task)
             hub.close()
         self.hub.close()
+        until = time.monotonic() + LIMIT
         left = [it for it in threading.enumerate() if it not in self.others]
         for thread in left:
-            thread.join(LIMIT)
+            thread.join(max(0, until - time.monotonic()))
         self.assertFalse(any(it.is_alive() for it in left))
 
     def test_what_tells_first_why_it_is_over(self):

@@ -9,7 +9,7 @@ from rx10 import pool as pools
 from rx10.errors import Misuse
 from rx10.pool import Job, Pool, most_that_wait
 
-LIMIT = 60                      # seconds after which a test is taken to hang
+LIMIT = 20                      # seconds after which a test is taken to hang
 
 
 class Task:

@@ -16,14 +16,20 @@ def run(name):
 
 
 class Situations(unittest.TestCase):
+    wanted = []                 # the tests that were asked for, of which there may be one
+
+    def __init__(self, method="runTest"):
+        super().__init__(method)
+        self.wanted.append(method)
+
     @classmethod
     def setUpClass(cls):
         cls.pool = concurrent.futures.ThreadPoolExecutor(AT_A_TIME)
-        cls.results = {name: cls.pool.submit(run, name) for name in SITUATIONS}
+        cls.results = {name: cls.pool.submit(run, name) for name in SITUATIONS if f"test_{name}" in cls.wanted}
 
     @classmethod
     def tearDownClass(cls):
-        cls.pool.shutdown()
+        cls.pool.shutdown(cancel_futures=True)
 
 
 def add(name):

@@ -9,6 +9,7 @@ import re
 import sys
 import unittest
 
+import needed_lines
 from places import TOP
 
 CRATES = TOP / "crates"
@@ -25,8 +26,39 @@ UNNAMED = {"rx_parts/specs/Merges.antt", "rx_parts/specs/Passes.antt", "rx_parts
            "rx_machine/specs/Picking.antt", "rx_machine/specs/Slots.antt", "rx_rank/specs/Counts.antt", "rx_syntax/specs/Names.antt"}
 
 
+# The reading lists of docs/trust.md: the heading of each, the definitions that it is for, and the lists above it to which it adds.
+TOP_SPECS = "rx_program/specs/Top"
+BULLETS = [("rx_rules/specs/Laws", "NoEarlyRelease"), ("rx_rules/specs/Laws", "LossExact"), ("rx_rules/specs/Order", "OrderKept"),
+           ("rx_trace/specs/Text", "trace_text")]
+SCRIPTS = BULLETS + [(TOP_SPECS, "WasScript")]
+WHOLE_RUNS = SCRIPTS + [("rx_rules/specs/Run", "IsRun")]
+COMMANDS = WHOLE_RUNS + [(TOP_SPECS, "IsOver"), (TOP_SPECS, "IsOutcome"), ("rx_words/specs/Words", "asked_any")]
+COORDINATOR = [("rx10_coordinator/specs/Serving", "Served"), ("rx10_coordinator/specs/Log", "Logged")]
+LISTS = {"The bullets": (BULLETS, []), "Scripts": (SCRIPTS, BULLETS), "Whole runs": (WHOLE_RUNS, SCRIPTS),
+         "Every command": (COMMANDS, WHOLE_RUNS), "The coordinator": (COORDINATOR, [])}
+LIST_ROW = r"(?m)^\| `([\w/]+\.antt)` \| (\d+) \|"
+
+
 def page(name):
     return (TOP / name).read_text()
+
+
+def list_text(title):
+    """The text of a reading list, with its heading."""
+    return re.search(r"^### %s\n.*?(?=^##)" % title, page("docs/trust.md"), re.M | re.S)[0]
+
+
+@functools.lru_cache(maxsize=None)
+def listed(title):
+    """The lines that a reading list has to tell of each file: those that its definitions need, without those of the lists above."""
+    roots, above = LISTS[title]
+    told = needed_lines.needed(above)
+    return {file: lines - told.get(file, 0) for file, lines in needed_lines.needed(roots).items() if lines != told.get(file, 0)}
+
+
+def read_in_all(title):
+    """The lines of a reading list and of the lists to which it adds."""
+    return sum(needed_lines.needed(LISTS[title][0]).values())
 
 
 def files(crate, part):
@@ -36,14 +68,13 @@ def files(crate, part):
 
 @functools.lru_cache(maxsize=None)
 def trusted():
-    """The lines used of each file of the reading list, by its path under crates/."""
-    rows = re.findall(r"^\| `([\w/]+\.antt)` \| (\d+) \| (\d+) \|", page("docs/trust.md"), re.M)
-    return {file: (int(used), int(whole)) for file, used, whole in rows}
+    """The lines used of each file that the program's promise needs, by its path under crates/."""
+    return needed_lines.needed(COMMANDS)
 
 
 def claim_rows():
-    """The rows of claims of the page of trust: the crate, its contracts, and the last column, with the files to read."""
-    rows = page("docs/trust.md").partition("## Every other claim")[2].partition("\n### ")[0]
+    """The rows of the page of claims: the crate, its contracts, and the last column, with the files to read."""
+    rows = page("docs/claims.md").partition("\n## ")[0]
     return re.findall(r"^\| (rx\w+|tasks_by_hand) \| ([^|]*) \| .* \|([^|]*)\|$", rows, re.M)
 
 
@@ -56,7 +87,7 @@ def read_besides():
 
 def used(*ends):
     """The lines used of all trusted files whose paths end so."""
-    found = [trusted()[it][0] for end in ends for it in trusted() if it.endswith(end)]
+    found = [trusted()[it] for end in ends for it in trusted() if it.endswith(end)]
     return sum(found) if len(found) >= len(ends) else "no such file in the reading list"
 
 
@@ -93,7 +124,7 @@ def naming(word):
     return counts
 
 
-THEOREM, TRUST, CHANGING = "docs/theorem.md", "docs/trust.md", "CONTRIBUTING.md"
+THEOREM, TRUST, CALLS, CHANGING = "docs/theorem.md", "docs/trust.md", "docs/claims.md", "CONTRIBUTING.md"
 CLAIMS = [
     (THEOREM, r"`asked_any`.*?, (\d+) lines", lambda: used("rx_words/specs/Words.antt")),
     (THEOREM, r"`Lexical.antt` and `Tokens.antt` of `crates/rx_syntax/specs/`, (\d+) lines", lambda: used("Lexical.antt", "Tokens.antt", "Grammar.antt")),
@@ -114,9 +145,9 @@ CLAIMS = [
     (THEOREM, r"`Order.antt`, (\d+) lines", lambda: used("rx_rules/specs/Order.antt")),
     (THEOREM, r"(\d+) lines of the file say what turns", lambda: used("Picked.antt")),
     (THEOREM, r"`crates/rx_machine/specs/Seeds.antt`, (\d+) lines", lambda: used("Seeds.antt")),
-    (TRUST, r"There are\s+([\d,]+) used lines", lambda: sum(it[0] for it in trusted().values())),
-    (TRUST, r"with\s+their\s+lines \(([\d,]+) in\s+all\)", lambda: sum(it[1] for it in read_besides())),
-    (TRUST, r"(\d+) more worked histories are whole runs, and (\d+) laws tell", lambda: laws("rx_worked") - 13, lambda: laws("rx_worked") - 24),
+    *((TRUST, r"(?m)^\| .* \| (?:the )?%s \| ([\d,]+) \|$" % re.sub("^The ", "", it).lower(), lambda it=it: read_in_all(it)) for it in LISTS),
+    (CALLS, r"with\s+their\s+lines \(([\d,]+) in\s+all\)", lambda: sum(it[1] for it in read_besides())),
+    (CALLS, r"(\d+) more worked histories are whole runs, and (\d+) laws tell", lambda: laws("rx_worked") - 13, lambda: laws("rx_worked") - 24),
     *((CHANGING, r"\| `%s` \| (\d+) in (\d+) crates \| (\d+) in (\d+) \| (\d+) in (\d+) \|" % word,
        *(lambda word=word, it=it: naming(word)[it] for it in range(6))) for word in ("forget", "set", "print", "arrive", "death", "dead")),
     (CHANGING, r"\| a crate: (\d+) \| (\d+) \| (\d+) \|", *(lambda it=it: len(files("rx_counts", it)) for it in ("src", "specs", "proofs"))),
@@ -138,12 +169,10 @@ class Numbers(unittest.TestCase):
                 self.assertEqual([number(it) for it in found.groups()], [it() for it in counts])
 
     def test_reading_list(self):
-        for file, (_, whole) in trusted().items():
-            self.assertEqual((file, whole), (file, (CRATES / file).read_text().count("\n")))
-        groups = re.split(r"^\| \*\*[^|]*\*\* \| \*\*([\d,]+)\*\* \| \| \|$", page(TRUST).partition("## Every other claim")[0], flags=re.M)[1:]
-        self.assertTrue(groups)
-        for told, rows in zip(groups[::2], groups[1::2]):
-            self.assertEqual(number(told), sum(map(int, re.findall(r"^\| `[\w/]+\.antt` \| (\d+) \|", rows, re.M))), rows[:200])
+        for title in LISTS:
+            rows = re.findall(LIST_ROW, list_text(title))
+            self.assertEqual((title, {file: int(lines) for file, lines in rows}), (title, listed(title)))
+            self.assertEqual(len(rows), len(listed(title)), title)
 
     def test_other_definitions(self):
         for file, lines in read_besides():
@@ -183,12 +212,7 @@ class Names(unittest.TestCase):
             for name in set(re.findall(r"\b(?:rx|tests_of)_[a-z_]+\b(?!\.|\()", it.read_text())):
                 self.assertIn(name, NAMES, it.name)
         lines = [it.partition("#")[0].partition(":") for it in page("crates.txt").splitlines()]
-        stands = {name: below.split() for name, found, below in lines if found}
-        self.assertEqual(set(stands), NAMES)
-        rows = dict(re.findall(r"^\| (\w+) \| ((?:rx_\w+(?:, )?)+|nothing) \|", page("docs/architecture.md"), re.M))
-        for name in set(rows) & NAMES:
-            told = [] if rows[name] == "nothing" else rows[name].split(", ")
-            self.assertEqual((name, sorted(told)), (name, sorted(it for it in stands[name] if it in NAMES)))
+        self.assertEqual({name for name, found, _ in lines if found}, NAMES)
 
     def test_functions_of_claims(self):
         self.assertTrue(claim_rows())
@@ -208,6 +232,12 @@ def mend():
                 print("%s: %s is %s: %s" % (name, found[group], count(), found[0]))
                 text = text[:found.start(group)] + format(count(), ",") + text[found.end(group):]
         (TOP / name).write_text(text)
+    for title in LISTS:
+        old = list_text(title)
+        new = re.sub(LIST_ROW, lambda row: "| `%s` | %d |" % (row[1], listed(title).get(row[1], 0)), old)
+        if new != old:
+            print("%s: the list of %r" % (TRUST, title))
+            (TOP / TRUST).write_text(page(TRUST).replace(old, new))
 
 
 if __name__ == "__main__" and sys.argv[1:] == ["--mend"]:

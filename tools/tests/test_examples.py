@@ -1,5 +1,6 @@
 """Each example gives the trace that stands beside it, by the words that it names. One of `live` has none: its traces differ."""
 
+import itertools
 import pathlib
 import re
 import subprocess
@@ -38,7 +39,19 @@ class Examples(unittest.TestCase):
         self.assertEqual(done.stderr, b"")
 
     def test_each_has_a_trace(self):
-        self.assertEqual({it.stem for it in SCRIPTS}, {it.stem for it in EXAMPLES.glob("*.trace")})
+        self.assertEqual({it.stem for it in SCRIPTS} | {"lost_update"}, {it.stem for it in EXAMPLES.glob("*.trace")})
+
+    def test_a_run_that_no_picks_give(self):
+        path = EXAMPLES / "lost_update.rx"
+        trace = path.with_suffix(".trace").read_bytes()
+        self.assertEqual(judged(path, trace), b"run\n")
+        self.assertIn(b" print t0 1 ", trace)
+        # the turns at which several tasks can move are the third to the sixth
+        lists = [["--pick", ",".join("00" + "".join(it))] for it in itertools.product("012", repeat=4)]
+        for words in [*lists, *(["--seed", str(it)] for it in range(20))]:
+            with open(path, "rb") as source:
+                done = subprocess.run([PROGRAM, "step", *words], stdin=source, capture_output=True, timeout=60, check=False)
+            self.assertIn(b" print t0 2 ", done.stdout, words)
 
     def test_workers_differ_in_nothing_that_the_example_names(self):
         path = EXAMPLES / "workers.rx"

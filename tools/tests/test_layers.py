@@ -22,7 +22,7 @@ class Layers(unittest.TestCase):
                 above.append(crate)
 
     def test_the_table_has_the_same_layers(self):
-        rows = re.findall(r"^\| (\*\*)?([^|*]+)(?:\*\*)? \|", (TOP / "docs" / "architecture.md").read_text().partition("| Crate | Stands on |")[2], re.M)
+        rows = re.findall(r"^\| (\*\*)?([^|*]+)(?:\*\*)? \|", (TOP / "docs" / "architecture.md").read_text().partition("| Crate | What it is |")[2], re.M)
         found, below = layers.read(LISTED)
         wanted = [it for layer in found for it in [layer.name, *layer.crates]]
         self.assertEqual([name for bold, name in rows if bold or name in below][:len(wanted)], wanted)

@@ -6,6 +6,7 @@ use Rattle.rx_rules.specs.declared.entries.Entry.{Entry}
 use Rattle.rx_rules.specs.declared.entries.Entry.TheVariants.{Death, Join}
 use Rattle.rx_runs.specs.Ties.{MayBe, MayCome}
 use Rattle.rx_rules.proofs.Append.{tree-push}
+use Rattle.rx_rules.proofs.Widths.{limit-tree}
 use Rattle.rx_tree_laws.specs.Sound.{Each}
 use Rattle.rx_tree_laws.specs.Histories.{DeadAsTold}
 use Rattle.rx_tree_laws.proofs.Histories.{none_yet, older-from}
@@ -82,7 +83,7 @@ module _ {L : Type 0} {stands : L → ℕ → Tree → Type 0} {U : Given} {l : 
   below = come_within (in_all U) (suc (tree_of U.places es).places) es (rest_of xs) rest
 
   pub may_join : Allowed (tree_of U.places es) (Join p)
-  may_join = (next, (let a = next in let b = below in let c : in_all U ≤ 16 = k.proper.few in omega (arith, a, b, c)))
+  may_join = (next, (let a = next in let b = below in let c : in_all U ≤ 16 = k.proper.few in let d = limit-tree U.places es in omega (arith, a, b, c, d)))
 
   -- how many more places may join afterwards
   abbrev pub after_join : ℕ

@@ -65,7 +65,7 @@ may_arrive T t w a =
 pub may_death : (T : Tree) (d : PlaceId) → Allowed T (DeathEntry d) → HasEntry T (Death d)
 may_death T d may = (Died, DeathEntry d, refl, may)
 
-pub may_join : (T : Tree) → T.places ≤ 15 → HasEntry T Join
+pub may_join : (T : Tree) → T.places < length T.dead → HasEntry T Join
 may_join T low = (let q : PlaceId = record { 0 = T.places } in (Joined q, JoinEntry q, refl, (refl, low)))
 
 -- a task that holds waits

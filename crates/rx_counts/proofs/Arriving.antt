@@ -3,6 +3,7 @@ use Rattle.std.proofs.Common.{◌≡◌, ℕ, ◌<◌, ◌≤◌, ◌^◌, ◌+�
 use Rattle.std.specs.List.{find}
 use Rattle.std.specs.Global.{Box}
 use Rattle.std.proofs.lemmas.Bool.{eq-eqb}
+use Rattle.rx_rules.proofs.Widths.{limit-act}
 use Rattle.rx_rules.proofs.Common.{ScopeId, Tree, is_task, change_first, made_act, acts, has_number}
 use Rattle.rx_rules.specs.declared.tasks.Where.{Where}
 use Rattle.rx_rules.specs.declared.tasks.Where.TheVariants.{At, Travel}
@@ -139,6 +140,6 @@ arrived l m T who qs k s may f at places width dead next_task next_scope totals 
                       masked_changed (stands_home T.dead) T.scopes (in_sums (more (At (landing who.place)))) k qs m.scopes (λ r. refl) d
                       (masked_changed (stands_home T.dead) T.scopes (in_sums (less who.place)) k l.scopes qs (λ r. refl) c s.fit.masked);
                 };
-            has_room = room_kept l m T (made_act T who.task (Arrive (landing who.place))) width refl s.has_room;
+            has_room = room_kept l m T (made_act T who.task (Arrive (landing who.place))) (limit-act T who.task (Arrive (landing who.place))) width refl s.has_room;
           };
     }

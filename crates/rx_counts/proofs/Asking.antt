@@ -132,8 +132,8 @@ pub wide : {room : ℕ} (l : CountLedger) (T : Tree) → StandsFor l room T → 
 wide l T s = let a = s.has_room.width in omega arith
 
 -- and for as many more as before, where the places are as many as before
-pub room_kept : {room : ℕ} (l m : CountLedger) (T U : Tree) → m.width ≡ l.width → U.places ≡ T.places → HasRoom l room T → HasRoom m room U
-room_kept l m T U width places h = record { width = (let a = h.width in omega arith); few = (let a = h.few in omega arith) }
+pub room_kept : {room : ℕ} (l m : CountLedger) (T U : Tree) → length U.dead ≡ length T.dead → m.width ≡ l.width → U.places ≡ T.places → HasRoom l room T → HasRoom m room U
+room_kept l m T U cells width places h = record { width = (let a = h.width in omega arith); few = (let a = h.few in omega arith); cells = cells ∙ h.cells }
 
 -- records for tables that are as large
 pub as_wide : (n m : ℕ) (keeps : Scope → Bool) (gs : List Scope) (ts : List Task) (rs : List (Option (Box Record))) → m ≡ n → RecordsFit n keeps gs ts rs → RecordsFit m keeps gs ts rs
@@ -162,7 +162,7 @@ same_fit l m T h places width dead next_task next_scope totals len same =
     }
 
 pub same_records : {room : ℕ} (l m : CountLedger) (T : Tree) → StandsFor l room T → m.places ≡ l.places → m.width ≡ l.width → m.dead ≡ l.dead → m.next_task ≡ l.next_task → m.next_scope ≡ l.next_scope → m.totals ≡ l.totals → m.scopes ≡ l.scopes → StandsFor m room T
-same_records l m T h places width dead next_task next_scope totals items = record { reached = h.reached; fit = same_fit l m T h.fit places width dead next_task next_scope totals (ap length items) (λ n. ap (λ xs. record_at xs n) items); has_room = room_kept l m T T width refl h.has_room }
+same_records l m T h places width dead next_task next_scope totals items = record { reached = h.reached; fit = same_fit l m T h.fit places width dead next_task next_scope totals (ap length items) (λ n. ap (λ xs. record_at xs n) items); has_room = room_kept l m T T refl width refl h.has_room }
 
 pub open_refused : (T : Tree) (who : Caller) (f : LedgerFault) (S : Tree → Type 0) → f ≡ NoMemory → IsUnstruck T who → S T → OpenReply T who (Err f) S
 open_refused T who f S is none s = subst (λ (v : LedgerFault). OpenReply T who (Err v) S) (sym is) (none, s)

@@ -44,7 +44,7 @@ opened_first room m places size r zero_ rs empty lo hi most fits same_places wid
     let none : SumsOf keeps (root ∷ []) [] zero_ 0 = sums_fresh keeps root [] [] zero_ tt tt refl size z in
     let one_ : SumsOf keeps (root ∷ []) (first ∷ []) (more (At zero_place) zero_) 0 = join_here keeps (root ∷ []) [] first zero_ 0 refl refl (zero_cell size zero_ (At zero_place) z (omega arith)) none in
     record {
-      reached = opens places lo (omega arith);
+      reached = opens {limit = 16} places lo (omega arith);
       fit =
           record {
             places = same_places;
@@ -59,7 +59,7 @@ opened_first room m places size r zero_ rs empty lo hi most fits same_places wid
                 (record_new keeps root [] (first ∷ []) r new (ap (λ (v : Sums). v.places) sums ∙ z.places) (subst (λ (v : Sums). SumsOf keeps (root ∷ []) (first ∷ []) v 0) (sym sums) one_)) (nothing_fits size keeps));
             masked = masked_opened keeps root [] [] m.scopes r refl tt refl (ap (λ (v : Sums). v.masked) sums ∙ z.masked) p (λ n. tt);
           };
-      has_room = record { width = (let a = width in omega arith); few = (let a = width in omega arith) };
+      has_room = record { width = (let a = width in omega arith); few = (let a = width in omega arith); cells = refl };
     }
 
 -- a ledger that is as wide as its places and the joins has room for the joins

@@ -3,6 +3,7 @@ use Rattle.std.proofs.Common.{◌≡◌, ℕ, ◌<◌, ◌+◌, Bool, true, fals
 use Rattle.std.specs.List.{find}
 use Rattle.std.proofs.lemmas.Bool.{eq-eqb}
 use Rattle.rx_tree_laws.proofs.Parents.{met_found}
+use Rattle.rx_rules.proofs.Widths.{limit-act}
 use Rattle.rx_rules.proofs.Common.{PlaceId, ScopeId, Tree, the_root, governing_in, chain_in, place_number, home_for, made_act, acts, has_number}
 use Rattle.rx_rules.specs.declared.tasks.Kind.TheVariants.{Finish}
 use Rattle.rx_rules.specs.declared.tasks.Where.{Where}
@@ -123,6 +124,6 @@ opened_stands l m T who s r st may blow f next kind home parent finish zero body
                       (record_new (stands_home T.dead) g T.scopes T.tasks r new zero.places (sums_fresh (stands_home T.dead) g T.scopes T.tasks r.sums falls low lives l.width zero)) st.fit.scopes);
                   masked = masked_opened (stands_home T.dead) g T.scopes l.scopes m.scopes r (st.fit.numbers ∙ sym number) falls lives zero.masked p st.fit.masked;
                 };
-            has_room = room_kept l m T (made_act T who.task (Open s who.inner [])) width refl st.has_room;
+            has_room = room_kept l m T (made_act T who.task (Open s who.inner [])) (limit-act T who.task (Open s who.inner [])) width refl st.has_room;
           };
     }

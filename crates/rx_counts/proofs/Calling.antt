@@ -2,6 +2,7 @@
 use Rattle.std.proofs.Common.{◌≡◌, ℕ, ◌<◌, ◌≤◌, ◌^◌, ◌+◌, Bool, true, false, ◌||◌, ◌==◌, not, List, [], ◌∷◌, Some, None, is_none, is_some, length, slice_index_or, Ok, refl, sym, ap, ◌∙◌, subst, arith}
 use Rattle.std.proofs.lemmas.Bool.{eq-eqb, ne_eqb}
 use Rattle.std.proofs.lemmas.List.{length-replicate}
+use Rattle.rx_rules.proofs.Widths.{limit-act}
 use Rattle.rx_rules.proofs.Common.{has_bit, PlaceId, TaskId, ScopeId, Tree, is_task, death_of, place_number, home_for, born, change_first, waiting, made_act, acts}
 use Rattle.rx_rules.specs.declared.tasks.Kind.TheVariants.{Call}
 use Rattle.rx_rules.specs.declared.tasks.Where.{Where}
@@ -103,15 +104,15 @@ called_stands l m T who to s child r zero b st may blow f next num kind home par
                         (record_new keeps g T.scopes (y ∷ T.tasks) r new (same_places to (start from to) zero r.sums b (λ v. (lost v).0) joins ∙ is_zero.places) mine) st.fit.scopes));
                     masked = masked_opened keeps g T.scopes l.scopes m.scopes r (st.fit.numbers ∙ sym number) falls lives (same_masked (start from to) zero r.sums b (λ v. (lost v).0) joins ∙ is_zero.masked) p st.fit.masked;
                   };
-              has_room = room_kept l m T (made_act T who.task (Calls from to s who.inner child [])) width refl st.has_room;
+              has_room = room_kept l m T (made_act T who.task (Calls from to s who.inner child [])) (limit-act T who.task (Calls from to s who.inner child [])) width refl st.has_room;
             };
       },
       dies,
     )
 
-pub call_ok : {size : ℕ} (T : Tree) (who : Caller) (to : PlaceId) (q : Sums) → Sound T → T.places ≤ size → MayAskTo T who to → (f : Free T who IsMoving) → IsZero size q → (to.0 < 16) × MayJoin (start (place_number who.place) to) q
-call_ok {size = size} T who to q h le may f z =
+pub call_ok : {size : ℕ} (T : Tree) (who : Caller) (to : PlaceId) (q : Sums) → Sound T → T.places ≤ size → size ≤ 16 → MayAskTo T who to → (f : Free T who IsMoving) → IsZero size q → (to.0 < 16) × MayJoin (start (place_number who.place) to) q
+call_ok {size = size} T who to q h le most may f z =
     let w : Where = start (place_number who.place) to in
     let none : count_in q w ≡ 0 = zero_count size q w z in
     let total : q.total ≡ 0 = z.total in
-    (to_low T who to h may, record { cell = zero_cell size q w z (started_in T who to h le may f); count = (subst (λ (m : ℕ). m + 1 < 2 ^ 32) (sym none) (omega arith)); total = omega arith })
+    (to_low T who to (omega (arith, le, most)) may, record { cell = zero_cell size q w z (started_in T who to h le may f); count = (subst (λ (m : ℕ). m + 1 < 2 ^ 32) (sym none) (omega arith)); total = omega arith })

@@ -1,8 +1,9 @@
 -- The records tell the counts of the rules.
-use Rattle.std.proofs.Common.{◌≡◌, ℕ, ◌<◌, min, Bool, true, false, cond, ◌&&◌, ◌==◌, not, Option, Some, None, is_some, is_none, option_map, IfSome, refl, sym, ap, ◌∙◌, subst}
+use Rattle.std.proofs.Common.{◌≡◌, ℕ, ◌<◌, min, Bool, true, false, cond, ◌&&◌, ◌==◌, not, Option, Some, None, is_some, is_none, option_map, IfSome, refl, sym, ap, ◌∙◌, subst, filter}
 use Rattle.std.specs.List.{find, list_any}
 use Rattle.rx_tree_laws.proofs.Releasing.{each_all}
 use Rattle.rx_tree_laws.proofs.Staying.{any_same}
+use Rattle.rx_rules.proofs.Widths.{sixteen_places}
 use Rattle.rx_rules.proofs.Common.{has_bit, members, all_places, PlaceId, ScopeId, Tree, chain_in, death_of, was_lost_at, has_number}
 use Rattle.rx_rules.specs.declared.tasks.Where.{Where}
 use Rattle.rx_rules.specs.declared.tasks.Where.TheVariants.{At, Travel}
@@ -87,6 +88,7 @@ lost_told l T s r st h e =
     let same : k.kept ≡ r = (let f = k.found in cc) in
     filter_same (has_bit r.sums.lost.0) (λ p. list_any (λ x. was_lost_at p x && counts_at T s x) T.tasks) all_places
     (each_more (λ (p : ℕ). p < 16) _ (λ (p : ℕ) low. ap (λ (v : Record). has_bit v.sums.lost.0 p) (sym same) ∙ k.fits.sums.lost p low ∙ ap (λ (m : ℕ). list_any (λ x. was_lost_at p x && kept_at (stands_home T.dead) T.scopes m x) T.tasks) k.number ∙ sym (lost_is T s p)) all_places places_low)
+    ∙ ap (filter (λ p. list_any (λ x. was_lost_at p x && counts_at T s x) T.tasks)) (sym (sixteen_places T st.has_room.cells))
 
 pub scope_missing : {room : ℕ} (l : CountLedger) (T : Tree) (s : ScopeId) → StandsFor l room T → HasScope T s → record_at l.scopes s.0 ≡ None → ⊥
 scope_missing l T s st h e = let f = (scope_record l T s st h).found in cc
@@ -123,7 +125,7 @@ counts_stand l room T st =
             parent = a.shape.parent;
             live = λ p low. a.sums.counts (At p) ∙ sym (live_is T g.number p);
             transit = λ p q low lowq. a.sums.counts (Travel p q) ∙ sym (transit_is T g.number p q);
-            lost = filter_same (has_bit r.sums.lost.0) (λ p. list_any (λ x. was_lost_at p x && counts_at T g.number x) T.tasks) all_places (each_more (λ (p : ℕ). p < 16) _ (λ (p : ℕ) low. a.sums.lost p low ∙ sym (lost_is T g.number p)) all_places places_low);
+            lost = filter_same (has_bit r.sums.lost.0) (λ p. list_any (λ x. was_lost_at p x && counts_at T g.number x) T.tasks) all_places (each_more (λ (p : ℕ). p < 16) _ (λ (p : ℕ) low. a.sums.lost p low ∙ sym (lost_is T g.number p)) all_places places_low) ∙ ap (filter (λ p. list_any (λ x. was_lost_at p x && counts_at T g.number x) T.tasks)) (sym (sixteen_places T st.has_room.cells));
             faults = a.faults;
             masked = subst (λ o. IfSome o (λ v. v.sums.masked ≡ masked_of (stands_home T.dead) T.scopes n)) kept (st.fit.masked n) ∙ ap (masked_of (stands_home T.dead) T.scopes) (sym (number_is n T.scopes g found)) ∙ sym (masked_is T g.number);
           })

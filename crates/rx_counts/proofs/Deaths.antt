@@ -1,5 +1,5 @@
 -- The death of a place.
-use Rattle.std.proofs.Common.{◌≡◌, ℕ, ◌<◌, ◌^◌, Bool, true, false, ◌&&◌, ◌==◌, not, List, [], ◌∷◌, Option, Some, None, is_none, slice_index_or, slice_set, length, map, IfSome, refl, sym, ap, ◌∙◌, subst, arith}
+use Rattle.std.proofs.Common.{◌≡◌, ℕ, ◌<◌, ◌^◌, Bool, true, false, ◌&&◌, ◌==◌, not, List, [], ◌∷◌, Option, Some, None, is_none, slice_index_or, slice_set, length, map, IfSome, refl, sym, ap, ◌∙◌, subst, arith, length-set}
 use Rattle.std.specs.List.{list_any}
 use Rattle.std.specs.Global.{Box}
 use Rattle.std.proofs.lemmas.Bool.{eqb-true, eqb-false, lt-ltb, le-ltb}
@@ -25,7 +25,7 @@ use Rattle.rx_counts.proofs.Lasting.{root_keeps}
 use Rattle.rx_counts.specs.Inside.Totalling.{dies, CanDie, toll_below}
 use Rattle.rx_counts.proofs.Totalling.{AreOf, are, totals_are, scopes_length}
 use Rattle.rx_counts.proofs.Tolls.{toll_is, one_dies}
-use Rattle.rx_counts.proofs.Asking.{tasks_length, fit_shaped, room_kept, as_wide}
+use Rattle.rx_counts.proofs.Asking.{tasks_length, fit_shaped, room_kept, as_wide, wide}
 use Rattle.rx_counts.proofs.Masking.{masked_keeps, masked_pairs}
 
 -- The deaths of places, after one more.
@@ -39,9 +39,9 @@ home_after dead d n g inside =
 
 pub strike_ok : {room : ℕ} (l : CountLedger) (T : Tree) (d : PlaceId) (n : ℕ) → StandsFor l room T → MayStrike T d n → (d.0 < 16) × ((m : ℕ) → IfSome (record_at l.scopes m) (MayHit d))
 strike_ok l T d n st may =
-    let h : Sound T = sound st.reached in
     let a = may.dies.0 in
-    let b = h.few in
+    let b = wide l T st in
+    let c = st.has_room.few in
     (omega arith, may_hit _ d (stands_home T.dead) T.scopes T.tasks l.scopes st.fit.scopes)
 
 until_zero : (keeps : Scope → Bool) (d : PlaceId) (gs : List Scope) → Each (λ k. keeps k ≡ given_until keeps d 0 k) gs
@@ -56,7 +56,6 @@ begins l T d n qs st may few_t few_s struck =
     let U : Tree = strike b T in
     let after : Reached U = place_dies b st.reached may.dies may.later in
     let k : Sound U = sound after in
-    let cells : length T.dead ≡ 16 = h.cells in
     let inside : d.0 < length T.dead = (let a = may.dies.0 in let c = h.few in omega arith) in
     let fit : RecordsFit l.width (stands_home T.dead) T.scopes (map (hit b) T.tasks) qs = all_strike _ b (stands_home T.dead) T.scopes T.tasks l.scopes qs struck st.fit.scopes in
     record {
@@ -108,5 +107,5 @@ died l m T d n i st may is places width dead next_task next_scope totals len p =
             scopes = as_wide l.width m.width (stands_home U.dead) T.scopes U.tasks m.scopes width (all_keeps _ (given_until (stands_home T.dead) d i) (stands_home U.dead) T.scopes U.tasks m.scopes same (λ j g found. each_found (λ k. given_until (stands_home T.dead) d i k ≡ stands_home U.dead k) (has_number j) T.scopes g same found) p.fit);
             masked = masked_keeps (given_until (stands_home T.dead) d i) (stands_home U.dead) T.scopes m.scopes same p.masked;
           };
-      has_room = room_kept l m T U width refl st.has_room;
+      has_room = room_kept l m T U (length-set T.dead d.0 (Some n)) width refl st.has_room;
     }

@@ -3,6 +3,7 @@ use Rattle.std.proofs.Common.{◌≡◌, ℕ, ◌≤◌, Bool, true, cond, ◌==
 use Rattle.std.specs.List.{find}
 use Rattle.std.specs.Global.{Box}
 use Rattle.std.proofs.lemmas.Bool.{eq-eqb, cases_eq}
+use Rattle.rx_rules.proofs.Widths.{limit-act}
 use Rattle.rx_rules.proofs.Common.{Fault, ScopeId, Tree, is_scope, change_first, made_act, acts, has_number}
 use Rattle.rx_rules.specs.declared.tasks.Where.{Where}
 use Rattle.rx_rules.specs.declared.tasks.Scope.{Scope}
@@ -105,7 +106,7 @@ ended l m T who thrown k qs ps st may f at places width dead next_task next_scop
                       masked_changed keeps (change_first (is_scope who.scope) (faulted (λ g. g.body) (λ g. g.ends ++ thrown)) T.scopes) (in_sums (less who.place)) k.0 ps m.scopes (λ r. refl) d
                       (masked_ended T.tasks keeps T.next_scope T.scopes who.scope own.scope thrown k.0 l.scopes qs ps (ends_if (k.0 == who.scope.0) thrown) h.falls h.opened (λ v. refl) own.stands at (λ r. refl) c x st.fit.masked);
                 });
-            has_room = room_kept l m T (made_act T who.task (End thrown)) width (ap (λ (v : Tree). v.places) is) st.has_room;
+            has_room = room_kept l m T (made_act T who.task (End thrown)) (limit-act T who.task (End thrown)) width (ap (λ (v : Tree). v.places) is) st.has_room;
           };
     }
 
@@ -121,4 +122,4 @@ same_pointwise s rs qs c n =
     map_id None = refl
 
 pub end_unchanged : {room : ℕ} (l m : CountLedger) (T : Tree) (who : Caller) → StandsFor l room T → m.places ≡ l.places → m.width ≡ l.width → m.dead ≡ l.dead → m.next_task ≡ l.next_task → m.next_scope ≡ l.next_scope → m.totals ≡ l.totals → Changed (λ r. r) who.scope.0 l.scopes m.scopes → StandsFor m room T
-end_unchanged l m T who st places width dead next_task next_scope totals c = record { reached = st.reached; fit = same_fit l m T st.fit places width dead next_task next_scope totals c.len (same_pointwise who.scope.0 l.scopes m.scopes c); has_room = room_kept l m T T width refl st.has_room }
+end_unchanged l m T who st places width dead next_task next_scope totals c = record { reached = st.reached; fit = same_fit l m T st.fit places width dead next_task next_scope totals c.len (same_pointwise who.scope.0 l.scopes m.scopes c); has_room = room_kept l m T T refl width refl st.has_room }

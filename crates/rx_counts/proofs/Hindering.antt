@@ -3,6 +3,7 @@ use Rattle.std.proofs.Common.{◌≡◌, ℕ, zero, suc, ◌<◌, ◌≤◌, ◌
 use Rattle.std.specs.List.{list_any}
 use Rattle.std.proofs.lemmas.Bool.{eq-eqb, ne_eqb, true≢false, and_parts, and_from, or_left, or_right, lt-ltb, not-false}
 use Rattle.rx_tree_laws.proofs.Staying.{any_same}
+use Rattle.rx_rules.proofs.Widths.{sixteen_places}
 use Rattle.rx_rules.proofs.Common.{has_bit, members, all_places, PlaceId, ScopeId, Tree, is_under, quiet, was_lost_at, lost_under, masked_under, thrown_of}
 use Rattle.rx_rules.specs.declared.tasks.Where.{Where}
 use Rattle.rx_rules.specs.declared.tasks.Where.TheVariants.{At, Travel}
@@ -147,7 +148,9 @@ outcome l T s r st i e zero_total =
     let faults = subst (λ (v : Record). (v.body ≡ k.scope.body) × (v.ends ≡ k.scope.ends)) same (k.fits.faults (ap keeps is ∙ home_keeps T s h i)) in
     record {
       still = still;
-      places = filter_same (has_bit r.sums.lost.0) (λ p. list_any (λ x. is_under T s x && was_lost_at p x) T.tasks) all_places (each_more (λ (p : ℕ). p < 16) _ (λ (p : ℕ) low. sums.lost p low ∙ sym (lost_named T s h i still p)) all_places places_low);
+      places =
+          filter_same (has_bit r.sums.lost.0) (λ p. list_any (λ x. is_under T s x && was_lost_at p x) T.tasks) all_places (each_more (λ (p : ℕ). p < 16) _ (λ (p : ℕ) low. sums.lost p low ∙ sym (lost_named T s h i still p)) all_places places_low)
+          ∙ ap (filter (λ p. list_any (λ x. is_under T s x && was_lost_at p x) T.tasks)) (sym (sixteen_places T st.has_room.cells));
       faults = ap (λ xs. xs ++ r.ends) (faults.0 ∙ ap (λ (v : Scope). v.body) is) ∙ ap (λ xs. i.scope.body ++ xs) (faults.1 ∙ ap (λ (v : Scope). v.ends) is) ∙ sym (let q : thrown_of T s ≡ i.scope.body ++ i.scope.ends = rw (i.stands, thrown_of) in q);
       masked = subst (λ o. IfSome o (λ v. v.sums.masked ≡ masked_of keeps T.scopes s.0)) e (st.fit.masked s.0) ∙ sym (masked_named T s h i still);
       orphans = sums.orphans;

@@ -23,5 +23,5 @@ joined l m T p st may places width dead next_task next_scope totals same =
             scopes = f.scopes;
             masked = f.masked;
           };
-      has_room = record { width = (let a = st.has_room.width in omega arith); few = (let a = st.has_room.few in omega arith) };
+      has_room = record { width = (let a = st.has_room.width in omega arith); few = (let a = st.has_room.few in omega arith); cells = st.has_room.cells };
     }

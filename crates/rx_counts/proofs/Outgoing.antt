@@ -43,7 +43,7 @@ released T who (Ok o) m l st may f h =
                   scopes = all_waits _ (stands_home T.dead) (without T who.inner).scopes (without T who.inner).tasks who.task false m.scopes fit.scopes;
                   masked = fit.masked;
                 };
-            has_room = room_kept m m T (made_act T who.task (Release who.inner o.lost o.masked o.thrown)) refl refl h.2;
+            has_room = room_kept m m T (made_act T who.task (Release who.inner o.lost o.masked o.thrown)) refl refl refl h.2;
           };
     }
 released T who (Err NoMemory) m l st may f h = (unstruck_of T who (WaitsInside T who) f, h.0, h.1)
@@ -53,7 +53,7 @@ released T who (Err (NotYet p)) m l st may f h = (unstruck_of T who (WaitsInside
 pub root_released : {room : ℕ} (T : Tree) (res : Result Outcome LedgerFault) (m : CountLedger) → (l : CountLedger) → StandsFor l room T → HasRoot T → FreeReply room T the_root res m → RootReply T res (StandsFor m room)
 root_released T (Ok o) m l st has h =
     let may : Allowed T (Root o.lost o.masked o.thrown) = (has.root, has.stands, h.0) in
-    (may, record { reached = ends o.lost o.masked o.thrown st.reached may; fit = h.1; has_room = room_kept m m T (without T the_root) refl refl h.2 })
+    (may, record { reached = ends o.lost o.masked o.thrown st.reached may; fit = h.1; has_room = room_kept m m T (without T the_root) refl refl refl h.2 })
 root_released T (Err NoMemory) m l st has h = h
 root_released T (Err (Lost p a)) m l st has h = absurd h
 root_released T (Err (NotYet p)) m l st has h = h

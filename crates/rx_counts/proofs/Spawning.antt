@@ -2,6 +2,7 @@
 use Rattle.std.proofs.Common.{◌≡◌, ℕ, ◌<◌, ◌≤◌, ◌+◌, Bool, true, false, cond, ◌==◌, not, List, [], ◌∷◌, Option, Some, None, is_none, is_some, option_map, length, slice_index_or, IfSome, Ok, refl, sym, ap, ◌∙◌, subst, arith}
 use Rattle.std.specs.Global.{Box}
 use Rattle.std.proofs.lemmas.Bool.{true≢false}
+use Rattle.rx_rules.proofs.Widths.{limit-act}
 use Rattle.rx_rules.proofs.Common.{PlaceId, TaskId, ScopeId, Tree, death_of, the_root, place_number, born, made_act, acts}
 use Rattle.rx_rules.specs.declared.tasks.Where.{Where}
 use Rattle.rx_rules.specs.declared.tasks.Where.TheVariants.{At, Travel}
@@ -41,8 +42,8 @@ start from to = cond (from.0 == to.0) (At to) (Travel from to)
 start_in : (n : ℕ) (from to : PlaceId) → from.0 < n → to.0 < n → Inside n (start from to)
 start_in n from to a b = elim (from.0 == to.0) as (λ c. Inside n (cond c (At to) (Travel from to))) [ true ↦ b | false ↦ (a, b) ]
 
-pub to_low : (T : Tree) (who : Caller) (to : PlaceId) → Sound T → MayAskTo T who to → to.0 < 16
-to_low T who to h may = let a = may.target in let b = h.few in omega arith
+pub to_low : (T : Tree) (who : Caller) (to : PlaceId) → T.places ≤ 16 → MayAskTo T who to → to.0 < 16
+to_low T who to few may = let a = may.target in omega arith
 
 from_low : (n : ℕ) (w : Where) → Inside n w → (place_number w).0 < n
 from_low n (At p) h = h
@@ -51,11 +52,11 @@ from_low n (Travel from to) h = h.0
 pub started_in : {size : ℕ} (T : Tree) (who : Caller) (to : PlaceId) → Sound T → T.places ≤ size → MayAskTo T who to → (f : Free T who IsMoving) → Inside size (start (place_number who.place) to)
 started_in {size = size} T who to h le may f = start_in size (place_number who.place) to (from_low size who.place (place_in T who IsMoving h le f)) (let a = may.target in omega arith)
 
-pub bear_ok : {size : ℕ} (T : Tree) (who : Caller) (to : PlaceId) (rs : List (Option (Box Record))) (k : ℕ) (want : Option ScopeId) → Sound T → T.places ≤ size → MayAskTo T who to → (f : Free T who IsMoving) → keeper (stands_home T.dead) T.scopes want ≡ Some k → RecordsFit size (stands_home T.dead) T.scopes T.tasks rs → (k < length rs) × (to.0 < 16) × IfSome (record_at rs k) (λ r. MayJoin (start (place_number who.place) to) r.sums)
-bear_ok {size = size} T who to rs k want h le may f at fit =
+pub bear_ok : {size : ℕ} (T : Tree) (who : Caller) (to : PlaceId) (rs : List (Option (Box Record))) (k : ℕ) (want : Option ScopeId) → Sound T → T.places ≤ size → size ≤ 16 → MayAskTo T who to → (f : Free T who IsMoving) → keeper (stands_home T.dead) T.scopes want ≡ Some k → RecordsFit size (stands_home T.dead) T.scopes T.tasks rs → (k < length rs) × (to.0 < 16) × IfSome (record_at rs k) (λ r. MayJoin (start (place_number who.place) to) r.sums)
+bear_ok {size = size} T who to rs k want h le most may f at fit =
     let q : Kept size T rs k = kept_at_keeper T rs want k fit at in (
       q.low,
-      to_low T who to h may,
+      to_low T who to (omega (arith, le, most)) may,
       may_join _ T T.tasks rs k want (start (place_number who.place) to) h (tasks_length T.next_task T.tasks h.tasks_fall) may.asks.numbers.tasks at (started_in T who to h le may f) fit,
     )
 
@@ -123,7 +124,7 @@ spawned l m T who to child s k b st may f num fin at e places width dead next_ta
                     scopes = as_wide l.width m.width (stands_home T.dead) T.scopes (born T child s (place_number who.place) to ∷ T.tasks) m.scopes width (all_born _ T T.scopes (stands_home T.dead) T.tasks child s (place_number who.place) to k l.scopes m.scopes b dies at (has_cell _ (stands_home T.dead) T.next_scope T.scopes T.tasks l.scopes k (Some s) (start (place_number who.place) to) h.falls at (started_in T who to h (wide l T st) may f) st.fit.scopes) lost joins st.fit.scopes);
                     masked = masked_born (stands_home T.dead) T.scopes to (start (place_number who.place) to) k l.scopes m.scopes b lost joins st.fit.masked;
                   };
-              has_room = room_kept l m T (made_act T who.task (Spawn child s (place_number who.place) to [])) width refl st.has_room;
+              has_room = room_kept l m T (made_act T who.task (Spawn child s (place_number who.place) to [])) (limit-act T who.task (Spawn child s (place_number who.place) to [])) width refl st.has_room;
             };
       },
       dies,

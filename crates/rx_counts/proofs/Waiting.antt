@@ -1,5 +1,6 @@
 -- A task waits.
 use Rattle.std.proofs.Common.{◌≡◌, ℕ, true, List, Some, Ok, length, refl, ◌∙◌, sym, subst}
+use Rattle.rx_rules.proofs.Widths.{limit-act}
 use Rattle.rx_rules.proofs.Common.{Fault, TaskId, ScopeId, Tree, is_task, is_scope, change_first, waiting, made_act, acts}
 use Rattle.rx_rules.specs.declared.entries.Act.TheVariants.{Wait}
 use Rattle.std.specs.List.{find}
@@ -60,6 +61,6 @@ waits_stands l m T who thrown st may f places width dead next_task next_scope to
                       (all_faulted (λ g. thrown) (λ g. g.ends) who.inner (stands_home T.dead) (λ g. refl) _ T.scopes T.tasks (with_body thrown) l.scopes m.scopes (λ r. (refl, refl, refl, refl, refl)) (λ r g found live was. (refl, was.1)) c st.fit.scopes));
                   masked = masked_waits (λ g. thrown) (λ g. g.ends) who.inner (stands_home T.dead) (λ g. refl) T.scopes own (with_body thrown) l.scopes m.scopes found kept (λ r. refl) c st.fit.masked;
                 };
-            has_room = room_kept l m T (made_act T who.task (Wait who.inner thrown)) width refl st.has_room;
+            has_room = room_kept l m T (made_act T who.task (Wait who.inner thrown)) (limit-act T who.task (Wait who.inner thrown)) width refl st.has_room;
           };
     }

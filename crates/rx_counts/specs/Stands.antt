@@ -109,6 +109,7 @@ pub record Fit (l : CountLedger) (T : Tree) : Type 0 where
 pub record HasRoom (l : CountLedger) (room : ℕ) (T : Tree) : Type 0 where
   pub width : room + T.places ≤ l.width
   pub few : l.width ≤ 16
+  pub cells : length T.dead ≡ 16
 
 -- and the tree can be reached
 pub record StandsFor (l : CountLedger) (room : ℕ) (T : Tree) : Type 0 where

@@ -302,8 +302,8 @@ module _ (p : ℕ) (home : ℕ → ℕ) where
                     events h,
                     inr (
                         let at : to.0 ≡ p = at_home ∙ h in
-                        let low16 : to.0 < 16 = let k : T.places ≤ 16 = i.few in omega (arith, k, target) in
-                        let alive : is_some (death_of T to) ≡ false = i.dead_so to low16 ∙ ap (has_died past) at ∙ tale.lives in
+                        let low : to.0 < length T.dead = let k : T.places ≤ length T.dead = i.few in omega (arith, k, target) in
+                        let alive : is_some (death_of T to) ≡ false = i.dead_so to low ∙ ap (has_died past) at ∙ tale.lives in
                         subst (λ v. stays_here after c.0 v ≡ true) at (here y (none-of (death_of T to) alive))),
                   ),
                 ) begins

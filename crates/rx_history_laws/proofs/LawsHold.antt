@@ -1,15 +1,17 @@
 -- Histories whose entries are allowed have no early release, and their releases name exactly the losses.
-use Rattle.std.proofs.Common.{◌≡◌, ℕ, suc, ◌≤◌, Bool, true, false, not, ◌&&◌, ◌||◌, ◌==◌, List, [], ◌∷◌, Option, Some, None, is_some, is_none, option_map, refl, ap, sym, subst, ◌∙◌, arith, inl, inr}
+use Rattle.std.proofs.Common.{◌≡◌, ℕ, suc, ◌≤◌, Bool, true, false, not, ◌&&◌, ◌||◌, ◌==◌, List, [], ◌∷◌, length, Option, Some, None, is_some, is_none, option_map, refl, ap, sym, subst, ◌∙◌, arith, inl, inr}
 use Rattle.std.specs.List.{list_any, list_all}
 use Rattle.std.proofs.Math.Bool.{and-false, and-true}
 use Rattle.std.proofs.lemmas.Bool.{eqb-true, ne_eqb, or_parts, or_cases, or_left, or_right, or_from, and_from, cond_both, true≢false, not-true, not_from_false}
-use Rattle.std.proofs.lemmas.List.{get_or-replicate}
+use Rattle.std.proofs.lemmas.List.{length-replicate}
 use Rattle.std.proofs.lemmas.List.Elements.{filter_agree}
-use Rattle.rx_rules.proofs.Common.{PlaceSet, ScopeId, all_places, members, Tree, is_under, quiet, the_root, Allowed, made, was_lost_at, lost_under, opening, AllAllowed, TaskBirth, is_on, until, born_so_far}
+use Rattle.rx_rules.proofs.Common.{PlaceSet, ScopeId, members, places_of, Tree, is_under, quiet, the_root, Allowed, made, was_lost_at, lost_under, opening, wide_opening, AllAllowed, TaskBirth, is_on, until, born_so_far}
 use Rattle.rx_rules.specs.declared.entries.Act.TheVariants.{Open, At as Calls, Spawn, Arrive, Wait, Release, End, Print, Census}
 use Rattle.rx_rules.specs.declared.entries.Entry.{Entry}
 use Rattle.rx_rules.specs.declared.entries.Entry.TheVariants.{Step, Root, Death, Join}
-use Rattle.rx_rules.specs.Laws.{AtRelease, EachRelease, AllOver, NamesLost, NoEarlyRelease, LossExact, is_named}
+use Rattle.rx_rules.specs.Laws.{AtRelease, EachRelease, AllOver, NamesLostOf, NoEarlyRelease, LossExact, LossExactOf, is_named}
+use Rattle.rx_rules.proofs.Widths.{limit-made}
+use Rattle.rx_tree_laws.proofs.Reach.{no_dead}
 use Rattle.rx_history_laws.proofs.Lines.{Bone, bones, nums, line, on_chain-line}
 use Rattle.rx_history_laws.proofs.Aligned.{Facts, facts, blow_place, IsRow, IsOut, ended, gone, Aligned, none, out, row}
 use Rattle.rx_history_laws.proofs.Ties.{Tied, ScopeOk}
@@ -89,13 +91,13 @@ at_over past T i s lost there still =
     all-over (facts past) (bones T) s.0 there i.scopes (is_under T s) (λ x. on_chain-line T s x.under)
     (not-true (list_any (λ x. is_under T s x && is_none x.struck) T.tasks) still) i.tasks
 
-at_named : (past : List Entry) (T : Tree) → Tied past T → (s : ScopeId) (lost : PlaceSet) → is_on s.0 (nums (bones T)) ≡ true → members lost ≡ lost_under T s → NamesLost past s.0 lost
+at_named : (past : List Entry) (T : Tree) → Tied past T → (s : ScopeId) (lost : PlaceSet) → is_on s.0 (nums (bones T)) ≡ true → members lost ≡ lost_under T s → NamesLostOf (length T.dead) past s.0 lost
 at_named past T i s lost there e =
     e
     ∙ filter_agree (λ p. list_any (λ x. is_under T s x && was_lost_at p x) T.tasks) (λ p. list_any (is_named past s.0 p) (born_so_far past))
-    (λ p. all-named (facts past) (bones T) s.0 there i.scopes p (is_under T s) (λ x. on_chain-line T s x.under) i.tasks) all_places
+    (λ p. all-named (facts past) (bones T) s.0 there i.scopes p (is_under T s) (λ x. on_chain-line T s x.under) i.tasks) (places_of T)
 
-at_entry : (n : ℕ) (past : List Entry) (T : Tree) → Tied past T → (e : Entry) → Allowed T e → AtRelease AllOver past e × AtRelease NamesLost past e
+at_entry : (n : ℕ) (past : List Entry) (T : Tree) → Tied past T → (e : Entry) → Allowed T e → AtRelease AllOver past e × AtRelease (NamesLostOf (length T.dead)) past e
 at_entry n past T i (Step t (Release s lost masked thrown) batch) a =
     let there = release_stands n past T i t s a.asks.1 a.asks.2 in
     (at_over past T i s lost there a.asks.3.is_quiet, at_named past T i s lost there a.asks.3.places)
@@ -113,12 +115,13 @@ at_entry n past T i (Step t (Census places path) batch) a = (tt, tt)
 at_entry n past T i (Death d) a = (tt, tt)
 at_entry n past T i (Join d) a = (tt, tt)
 
-both_from : (n : ℕ) (past : List Entry) (T : Tree) → Tied past T → (es : List Entry) → AllAllowed n T es → EachRelease AllOver past es × EachRelease NamesLost past es
-both_from n past T i [] a = (tt, tt)
-both_from n past T i (e ∷ es) a =
+both_from : (n limit : ℕ) (past : List Entry) (T : Tree) → length T.dead ≡ limit → Tied past T → (es : List Entry) → AllAllowed n T es → EachRelease AllOver past es × EachRelease (NamesLostOf limit) past es
+both_from n limit past T w i [] a = (tt, tt)
+both_from n limit past T w i (e ∷ es) a =
     let here = at_entry n past T i e a.0 in
-    let rest = both_from (suc n) (e ∷ past) (made n T e) (tied-made n past T i e a.0) es a.1 in
-    ((here.0, rest.0), (here.1, rest.1))
+    let named : AtRelease (NamesLostOf limit) past e = subst (λ k. AtRelease (NamesLostOf k) past e) w here.1 in
+    let rest = both_from (suc n) limit (e ∷ past) (made n T e) (limit-made n T e ∙ w) (tied-made n past T i e a.0) es a.1 in
+    ((here.0, rest.0), (named, rest.1))
 
 -- the opening tree stands for no entries
 only_zero : (n : ℕ) → is_on n (0 ∷ []) ≡ true → n ≡ 0
@@ -128,11 +131,11 @@ only_zero n h =
       | inr e ↦ absurd (true≢false (sym e))
     ]
 
-pub tied-opening : (places : ℕ) → places ≤ 16 → Tied [] (opening places)
-tied-opening places few =
+pub wide-tied-opening : (limit places : ℕ) → places ≤ limit → Tied [] (wide_opening limit places)
+wide-tied-opening limit places few =
     record {
       falls = (omega arith, tt);
-      scopes = λ n h. subst (ScopeOk (facts []) (bones (opening places))) (sym (only_zero n h)) (record { walks = refl; free = refl; finish = refl });
+      scopes = λ n h. subst (ScopeOk (facts []) (bones (wide_opening limit places))) (sym (only_zero n h)) (record { walks = refl; free = refl; finish = refl });
       older = λ g k h. elim (or_cases (g == k) false h) [
         | inl e ↦ let same : g ≡ k = eqb-true g k e in omega arith
         | inr e ↦ absurd (true≢false (sym e))
@@ -141,13 +144,25 @@ tied-opening places few =
       births = (omega arith, omega arith, refl, tt);
       later = λ t h. record { unborn = or_from (0 == t) false (ne_eqb 0 t (λ e. omega arith)) refl; going = refl; unlanded = refl };
       tasks = row (record { number = refl; under = refl; place = (refl, refl); struck = refl; going = refl; stands = refl }) none;
-      dead_so = λ p h. ap is_some (get_or-replicate 16 p.0 None None h);
-      sixteen = refl;
-      few = few;
+      dead_so = λ p h. ap is_some (no_dead limit p.0);
+      few = subst (λ k. places ≤ k) (sym (length-replicate limit None)) few;
     }
 
+pub tied-opening : (places : ℕ) → places ≤ 16 → Tied [] (opening places)
+tied-opening = wide-tied-opening 16
+
+both-hold : (limit places : ℕ) → places ≤ limit → (es : List Entry) → AllAllowed 0 (wide_opening limit places) es → EachRelease AllOver [] es × EachRelease (NamesLostOf limit) [] es
+both-hold limit places few es a = both_from 0 limit [] (wide_opening limit places) (length-replicate limit None) (wide-tied-opening limit places few) es a
+
+pub wide-no-early : (limit places : ℕ) → places ≤ limit → (es : List Entry) → AllAllowed 0 (wide_opening limit places) es → NoEarlyRelease es
+wide-no-early limit places few es a = (both-hold limit places few es a).0
+
+pub wide-loss-exact : (limit places : ℕ) → places ≤ limit → (es : List Entry) → AllAllowed 0 (wide_opening limit places) es → LossExactOf limit es
+wide-loss-exact limit places few es a = (both-hold limit places few es a).1
+
+-- scripts have 16
 pub no-early : (places : ℕ) → places ≤ 16 → (es : List Entry) → AllAllowed 0 (opening places) es → NoEarlyRelease es
-no-early places few es a = (both_from 0 [] (opening places) (tied-opening places few) es a).0
+no-early = wide-no-early 16
 
 pub loss-exact : (places : ℕ) → places ≤ 16 → (es : List Entry) → AllAllowed 0 (opening places) es → LossExact es
-loss-exact places few es a = (both_from 0 [] (opening places) (tied-opening places few) es a).1
+loss-exact = wide-loss-exact 16

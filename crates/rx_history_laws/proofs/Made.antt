@@ -1,5 +1,5 @@
 -- Each entry that is allowed keeps what ties the tree to the entries.
-use Rattle.std.proofs.Common.{◌≡◌, ℕ, suc, ◌<◌, ◌≤◌, Bool, true, false, cond, not, ◌&&◌, ◌||◌, ◌==◌, List, [], ◌∷◌, ◌++◌, map, filter, Option, Some, None, is_some, is_none, option_map, refl, ap, sym, subst, ◌∙◌, arith}
+use Rattle.std.proofs.Common.{◌≡◌, ℕ, suc, ◌<◌, ◌≤◌, Bool, true, false, cond, not, ◌&&◌, ◌||◌, ◌==◌, List, length, [], ◌∷◌, ◌++◌, map, filter, Option, Some, None, is_some, is_none, option_map, refl, ap, sym, subst, ◌∙◌, arith}
 use Rattle.std.specs.List.{list_any, find}
 use Rattle.std.proofs.lemmas.Bool.{eqb-true, eq-eqb, or_left, or_right, not-true}
 use Rattle.std.proofs.lemmas.List.Elements.{filter_agree}
@@ -31,7 +31,6 @@ ties-change F born died bs next_task next_scope places dead B C xs e p f same i 
       later = i.later;
       tasks = aligned-change F B p f same i.tasks;
       dead_so = i.dead_so;
-      sixteen = i.sixteen;
       few = i.few;
     })
 
@@ -80,7 +79,7 @@ born_where : (from to : PlaceId) (y landed : Bool) → (from.0 == to.0) ≡ y �
 born_where from to true landed e h = rw e (refl, refl)
 born_where from to false landed e h = rw e (h, refl, refl)
 
-row-born : (past : List Entry) (T : Tree) → Tied past T → (F : Facts) (B : List Bone) → F.ended ≡ has_ended past → F.landed ≡ has_landed past → F.hit ≡ hit_at past → (c : TaskId) (s : ScopeId) (from to : PlaceId) → c.0 ≡ T.next_task → to.0 < 16 → is_on s.0 (nums B) ≡ true → IsRow F B (record { task = c.0; under = s.0; from = from.0; to = to.0 }) (born T c s from to)
+row-born : (past : List Entry) (T : Tree) → Tied past T → (F : Facts) (B : List Bone) → F.ended ≡ has_ended past → F.landed ≡ has_landed past → F.hit ≡ hit_at past → (c : TaskId) (s : ScopeId) (from to : PlaceId) → c.0 ≡ T.next_task → to.0 < length T.dead → is_on s.0 (nums B) ≡ true → IsRow F B (record { task = c.0; under = s.0; from = from.0; to = to.0 }) (born T c s from to)
 row-born past T i F B fe fl fh c s from to e low there =
     let u = i.later c.0 (omega arith) in
     record {
@@ -113,7 +112,7 @@ module _ (n : ℕ) (past : List Entry) (T : Tree) (i : Tied past T) where
   makes_spawn : (t c : TaskId) (s : ScopeId) (from to : PlaceId) (path : List ℕ) (batch : List (List ℕ)) → Keeps (Step t (Spawn c s from to path) batch)
   makes_spawn t c s from to path batch a =
       let there : is_on s.0 (nums (bones T)) ≡ true = subst (λ (v : ScopeId). is_on v.0 (nums (bones T)) ≡ true) (sym a.asks.2) (governs_stands past T i t a.task a.stands) in
-      let low : to.0 < 16 = let k : to.0 < T.places = a.asks.3 in let e : T.places ≤ 16 = i.few in omega arith in
+      let low : to.0 < length T.dead = let k : to.0 < T.places = a.asks.3 in let e : T.places ≤ length T.dead = i.few in omega arith in
       ties-born (facts past) (is_born past) (has_died past) (born_so_far past) T.next_task T.next_scope T.places T.dead (bones T) T.tasks i
       (record { task = c.0; under = s.0; from = from.0; to = to.0 }) (born T c s from to) a.asks.1 there
       (row-born past T i (facts past) (bones T) refl refl refl c s from to a.asks.1 low there)
@@ -121,7 +120,7 @@ module _ (n : ℕ) (past : List Entry) (T : Tree) (i : Tied past T) where
   makes_call : (t : TaskId) (s r : ScopeId) (c : TaskId) (from to : PlaceId) (path : List ℕ) (batch : List (List ℕ)) → Keeps (Step t (Calls from to s r c path) batch)
   makes_call t s r c from to path batch a =
       let there : is_on r.0 (nums (bones T)) ≡ true = subst (λ (v : ScopeId). is_on v.0 (nums (bones T)) ≡ true) (sym a.asks.2) (inner_stands past T i t a.task a.stands) in
-      let low : to.0 < 16 = let k : to.0 < T.places = a.asks.4 in let e : T.places ≤ 16 = i.few in omega arith in
+      let low : to.0 < length T.dead = let k : to.0 < T.places = a.asks.4 in let e : T.places ≤ length T.dead = i.few in omega arith in
       let P : Bone = record { number = s.0; parent = Some r.0; finish = false } in
       let F : Facts = walks_too s.0 r.0 (facts past) in
       let o = ties-open (facts past) (is_born past) (has_died past) (born_so_far past) T.next_task T.next_scope T.places T.dead (bones T) T.tasks i P r.0 a.asks.1 refl there in
@@ -182,7 +181,7 @@ module _ (n : ℕ) (past : List Entry) (T : Tree) (i : Tied past T) where
   makes_death : (d : PlaceId) → Keeps (Death d)
   makes_death d a =
       ties-death (facts past) (is_born past) (has_died past) (born_so_far past) T.next_task T.next_scope T.places T.dead (bones T) T.tasks i
-      (record { place = d; entry = n }) n (let k : d.0 < T.places = a.0 in let e : T.places ≤ 16 = i.few in omega arith)
+      (record { place = d; entry = n }) n (let k : d.0 < T.places = a.0 in let e : T.places ≤ length T.dead = i.few in omega arith)
 
   makes_join : (d : PlaceId) → Keeps (Join d)
   makes_join d a =
@@ -195,8 +194,7 @@ module _ (n : ℕ) (past : List Entry) (T : Tree) (i : Tied past T) where
         later = i.later;
         tasks = i.tasks;
         dead_so = i.dead_so;
-        sixteen = i.sixteen;
-        few = (let k : d.0 ≡ T.places = a.0 in let m : d.0 ≤ 15 = a.1 in omega (arith, k, m));
+        few = (let k : d.0 ≡ T.places = a.0 in let m : d.0 < length T.dead = a.1 in omega (arith, k, m));
       }
 
   pub tied-made : (e : Entry) → Allowed T e → Tied (e ∷ past) (made n T e)

@@ -1,9 +1,8 @@
 -- A release that masks faults names lost places.
-use Rattle.std.proofs.Common.{◌≡◌, ◌≢◌, ℕ, zero, suc, ◌<◌, ◌≤◌, min, Bool, true, false, cond, not, ◌||◌, ◌&&◌, List, [], ◌∷◌, ◌++◌, length, filter, sum_by, slice_get, Option, Some, None, option_map, slice_index_or, All, refl, sym, ap, ◌∙◌, subst, arith}
-use Rattle.std.specs.List.{find, list_any}
+use Rattle.std.proofs.Common.{◌≡◌, ◌≢◌, ℕ, zero, suc, ◌+◌, ◌<◌, ◌≤◌, min, Bool, true, false, cond, not, ◌||◌, ◌&&◌, List, [], ◌∷◌, ◌++◌, length, filter, sum_by, slice_get, Option, Some, None, option_map, slice_index_or, All, refl, sym, ap, ◌∙◌, subst, arith}
+use Rattle.std.specs.List.{find, list_any, range_with_len}
 use Rattle.std.proofs.lemmas.Bool.{eq-eqb, true≢false, or_right, false_from_ne_true}
-use Rattle.rx_rules.proofs.Common.{PlaceId, TaskId, ScopeId, PlaceSet, Fault, all_places, members, Tree, is_task, is_scope, opened_by, on_chain, is_under, quiet, the_root, was_lost_at, lost_under, masked_under, WorksIn, MayFree, Allowed, made, opening, AllAllowed, Reached, IsOlder, opens}
-use Rattle.rx_base.proofs.Members.{place-at}
+use Rattle.rx_rules.proofs.Common.{PlaceId, TaskId, ScopeId, PlaceSet, Fault, members, Tree, is_task, is_scope, opened_by, on_chain, is_under, quiet, the_root, was_lost_at, lost_under, masked_under, WorksIn, MayFree, Allowed, made, wide_opening, places_of, AllAllowed, Reached, IsOlder, opens}
 use Rattle.rx_rules.specs.declared.tasks.Where.TheVariants.{At}
 use Rattle.rx_rules.specs.declared.tasks.Blow.{Blow}
 use Rattle.rx_rules.specs.declared.tasks.Task.{Task}
@@ -11,7 +10,7 @@ use Rattle.rx_rules.specs.declared.tasks.Scope.{Scope}
 use Rattle.rx_rules.specs.declared.entries.Act.TheVariants.{Open, At as Calls, Spawn, Arrive, Wait, Release, End, Print, Census}
 use Rattle.rx_rules.specs.declared.entries.Entry.{Entry}
 use Rattle.rx_rules.specs.declared.entries.Entry.TheVariants.{Step, Root, Death, Join}
-use Rattle.rx_rules.specs.Inversions.{MaskedMeansLost, MaskedIsLost}
+use Rattle.rx_rules.specs.Inversions.{MaskedMeansLost, MaskedIsLost, WideMaskedIsLost}
 use Rattle.rx_tree_laws.specs.Blows.{death_blow, blow_at}
 use Rattle.rx_tree_laws.specs.Chains.{meets, HasOpener, Opened, Falls}
 use Rattle.rx_tree_laws.specs.Sound.{Each, Inside, Sound}
@@ -22,7 +21,7 @@ use Rattle.rx_tree_laws.proofs.Releasing.{each_below, each_both, each_none, on_m
 use Rattle.rx_tree_laws.proofs.Reach.{fits_of}
 use Rattle.rx_tree_laws.proofs.Reached.{sound}
 use Rattle.rx_tree_laws.proofs.Below.{missed_later, one_opener, free_of}
-use Rattle.rx_tree_laws.proofs.Histories.{dead-now, reached_now, none_yet}
+use Rattle.rx_tree_laws.proofs.Histories.{dead-now, reached_now, none_yet_of}
 
 -- Of the scopes that stand, where no opener that is at its place is under s, s alone is below s.
 
@@ -71,6 +70,12 @@ none_kept f (y ∷ ys) i x e g = by_head (f y) refl i e g (λ j k. none_kept f y
   by_head false w zero k g more = let same : y ≡ x = cc in ap f (sym same) ∙ w
   by_head false w (suc j) k g more = more j k g
 
+-- each place stands at its own number
+counted : (a n k : ℕ) → k < n → slice_get (range_with_len a n) k ≡ Some (a + k)
+counted a zero k low = absurd (omega (arith, low))
+counted a (suc n) zero low = ap Some (omega arith)
+counted a (suc n) (suc k) low = counted (a + 1) n k (omega (arith, low)) ∙ ap Some (omega arith)
+
 blow-place : (dead : List (Option ℕ)) (p : PlaceId) (b : Blow) → death_blow dead p ≡ Some b → b.place ≡ p
 blow-place dead p b e = by_death (slice_index_or dead p.0 None) refl e where
   by_death : (o : Option ℕ) → slice_index_or dead p.0 None ≡ o → option_map (λ n. let w : Blow = record { place = p; entry = n } in w) o ≡ Some b → b.place ≡ p
@@ -85,8 +90,8 @@ none_under T s h still lost o x p found at = by_blow x.struck refl where
       let fits = fits_of T o x h found in
       let same : b.place ≡ p = blow-place T.dead p b (sym (fits.struck ∙ ap (λ w. blow_at T.dead w) at) ∙ e) in
       let low : p.0 < T.places = subst (Inside T.places) at fits.inside in
-      let few : T.places ≤ 16 = h.few in
-      let none : list_any (λ y. is_under T s y && was_lost_at p.0 y) T.tasks ≡ false = none_kept (λ q. list_any (λ y. is_under T s y && was_lost_at q y) T.tasks) all_places p.0 p.0 lost (place-at p.0 (omega (arith, low, few))) in
+      let few : T.places ≤ length T.dead = h.few in
+      let none : list_any (λ y. is_under T s y && was_lost_at p.0 y) T.tasks ≡ false = none_kept (λ q. list_any (λ y. is_under T s y && was_lost_at q y) T.tasks) (places_of T) p.0 p.0 lost (counted 0 (length T.dead) p.0 (omega (arith, low, few)) ∙ ap Some (omega arith)) in
       let one : (is_under T s x && was_lost_at p.0 x) ≡ false = each_found (λ y. (is_under T s y && was_lost_at p.0 y) ≡ false) (is_task o) T.tasks x (each_none (λ y. is_under T s y && was_lost_at p.0 y) T.tasks none) found in
       let there : was_lost_at p.0 x ≡ true = rw e (eq-eqb b.place.0 p.0 (ap (λ (v : PlaceId). v.0) same)) in
       sym (on_meets s T.scopes (Some x.under)) ∙ false_from_ne_true (is_under T s x) (λ u. true≢false (sym (rw (u, there) refl) ∙ one))
@@ -161,5 +166,8 @@ from-tree n T [] r o a i e g = cc
 from-tree n T (x ∷ es) r o a zero e g = let same : x ≡ e = cc in subst MaskedMeansLost same (at_entry T x r a.0)
 from-tree n T (x ∷ es) r o a (suc i) e g = from-tree (suc n) (made n T x) es (reached_now n T x r o a.0) (dead-now n T x o) a.1 i e g
 
+pub wide-masked-lost : WideMaskedIsLost
+wide-masked-lost limit places es low few a i e g = from-tree 0 (wide_opening limit places) es (opens places low few) (none_yet_of limit) a i e g
+
 pub masked-lost : MaskedIsLost
-masked-lost places es low few a i e g = from-tree 0 (opening places) es (opens places low few) none_yet a i e g
+masked-lost = wide-masked-lost 16

@@ -38,9 +38,8 @@ pub record Ties (F : Facts) (born died : ℕ → Bool) (bs : List TaskBirth) (ne
   pub births : BirthsOk born next_task next_scope bs
   pub later : (t : ℕ) → next_task ≤ t → Unborn F born t
   pub tasks : Aligned F B bs xs
-  pub dead_so : (p : PlaceId) → p.0 < 16 → is_some (slice_index_or dead p.0 None) ≡ died p.0
-  pub sixteen : length dead ≡ 16
-  pub few : places ≤ 16
+  pub dead_so : (p : PlaceId) → p.0 < length dead → is_some (slice_index_or dead p.0 None) ≡ died p.0
+  pub few : places ≤ length dead
 
 -- the tree stands for what stands before
 abbrev pub Tied : List Entry → Tree → Type 0
@@ -136,7 +135,6 @@ module _ (F : Facts) (born died : ℕ → Bool) (bs : List TaskBirth) (next_task
             (λ b x low w. record { number = w.number; under = w.under; place = w.place; struck = w.struck; going = w.going; stands = or_right (P.number == b.under) (is_on b.under (nums B)) w.stands })
             next_task i.births i.tasks;
         dead_so = i.dead_so;
-        sixteen = i.sixteen;
         few = i.few;
       }
 
@@ -160,6 +158,5 @@ module _ (F : Facts) (born died : ℕ → Bool) (bs : List TaskBirth) (next_task
             record { unborn = or_from (b.task == t) (born t) (ne_eqb b.task t (λ k. omega arith)) u.unborn; going = u.going; unlanded = u.unlanded };
         tasks = row r i.tasks;
         dead_so = i.dead_so;
-        sixteen = i.sixteen;
         few = i.few;
       }

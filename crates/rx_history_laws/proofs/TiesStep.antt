@@ -1,5 +1,5 @@
 -- Arrivals, ends, deaths and releases keep what ties the tree to the entries.
-use Rattle.std.proofs.Common.{◌≡◌, ℕ, ◌<◌, Bool, true, false, not, ◌&&◌, ◌||◌, ◌==◌, List, [], ◌∷◌, length, map, filter, Option, Some, None, is_some, is_none, refl, slice_index_or, slice_set, ap, sym, ◌∙◌, arith, length-set}
+use Rattle.std.proofs.Common.{◌≡◌, ℕ, ◌<◌, ◌≤◌, Bool, true, false, not, ◌&&◌, ◌||◌, ◌==◌, List, [], ◌∷◌, length, map, filter, Option, Some, None, is_some, is_none, refl, slice_index_or, slice_set, ap, sym, subst, ◌∙◌, arith, length-set}
 use Rattle.std.specs.List.{list_any, list_all, find}
 use Rattle.std.proofs.lemmas.Bool.{eqb-true, eq-eqb, ne_eqb, or_left, or_right, or_from, and_from, true≢false, not-true, not_from_false}
 use Rattle.std.proofs.lemmas.List.{get_or-set_same, get_or-set_other}
@@ -40,7 +40,6 @@ module _ (F : Facts) (born died : ℕ → Bool) (bs : List TaskBirth) (next_task
             record { unborn = o.unborn; going = o.going; unlanded = or_from (t.0 == u) (F.landed u) (ne_eqb t.0 u (λ e. omega arith)) o.unlanded };
         tasks = aligned-arrive F B born t p next_task next_scope i.births i.tasks travel;
         dead_so = i.dead_so;
-        sixteen = i.sixteen;
         few = i.few;
       }
 
@@ -58,19 +57,17 @@ module _ (F : Facts) (born died : ℕ → Bool) (bs : List TaskBirth) (next_task
             record { unborn = o.unborn; going = or_from (t.0 == u) (F.ended u) (ne_eqb t.0 u (λ e. omega arith)) o.going; unlanded = o.unlanded };
         tasks = aligned-end F B born t next_task next_scope i.births i.tasks free;
         dead_so = i.dead_so;
-        sixteen = i.sixteen;
         few = i.few;
       }
 
-  dead_step : (d p : PlaceId) (n : ℕ) (y : Bool) → (d.0 == p.0) ≡ y → d.0 < 16 → p.0 < 16 → is_some (slice_index_or (slice_set dead d.0 (Some n)) p.0 None) ≡ ((d.0 == p.0) || died p.0)
+  dead_step : (d p : PlaceId) (n : ℕ) (y : Bool) → (d.0 == p.0) ≡ y → d.0 < length dead → p.0 < length dead → is_some (slice_index_or (slice_set dead d.0 (Some n)) p.0 None) ≡ ((d.0 == p.0) || died p.0)
   dead_step d p n true e low small =
       let same : d.0 ≡ p.0 = eqb-true d.0 p.0 e in
-      let fits : d.0 < length dead = let k : length dead ≡ 16 = i.sixteen in omega arith in
-      rw e (ap is_some (ap (λ k. slice_index_or (slice_set dead d.0 (Some n)) k None) (sym same) ∙ get_or-set_same dead d.0 (Some n) None fits))
+      rw e (ap is_some (ap (λ k. slice_index_or (slice_set dead d.0 (Some n)) k None) (sym same) ∙ get_or-set_same dead d.0 (Some n) None low))
   dead_step d p n false e low small =
       rw e (ap is_some (get_or-set_other dead d.0 p.0 (Some n) None (λ k. true≢false (sym (eq-eqb d.0 p.0 (sym k)) ∙ e))) ∙ i.dead_so p small)
 
-  pub ties-death : (w : Blow) (n : ℕ) → w.place.0 < 16 → Ties (struck_too born w.place.0 F) born (λ p. (w.place.0 == p) || died p) bs next_task next_scope places (slice_set dead w.place.0 (Some n)) B (map (hit_row w) xs)
+  pub ties-death : (w : Blow) (n : ℕ) → w.place.0 < length dead → Ties (struck_too born w.place.0 F) born (λ p. (w.place.0 == p) || died p) bs next_task next_scope places (slice_set dead w.place.0 (Some n)) B (map (hit_row w) xs)
   ties-death w n low =
       record {
         falls = i.falls;
@@ -80,9 +77,8 @@ module _ (F : Facts) (born died : ℕ → Bool) (bs : List TaskBirth) (next_task
         births = i.births;
         later = λ u k. let o = i.later u k in record { unborn = o.unborn; going = o.going; unlanded = o.unlanded };
         tasks = aligned-struck born F B w next_task next_scope i.births i.tasks;
-        dead_so = λ p small. dead_step w.place p n (w.place.0 == p.0) refl low small;
-        sixteen = length-set dead w.place.0 (Some n) ∙ i.sixteen;
-        few = i.few;
+        dead_so = λ p small. dead_step w.place p n (w.place.0 == p.0) refl low (subst (λ k. p.0 < k) (length-set dead w.place.0 (Some n)) small);
+        few = subst (λ k. places ≤ k) (sym (length-set dead w.place.0 (Some n))) i.few;
       }
 
   pub ties-release : (s : ℕ) → is_on s (nums B) ≡ true → (u : Task → Bool) → ((x : Task) → u x ≡ is_on s (nums (line B (Some x.under.0)))) → list_any (λ x. u x && is_none x.struck) xs ≡ false → Ties (released_too s F) born died bs next_task next_scope places dead (left_of B s) (filter (λ x. not (u x && is_some x.struck)) xs)
@@ -107,6 +103,5 @@ module _ (F : Facts) (born died : ℕ → Bool) (bs : List TaskBirth) (next_task
         later = λ u k. let o = i.later u k in record { unborn = o.unborn; going = o.going; unlanded = o.unlanded };
         tasks = aligned-release F B next_scope s i.falls (λ n k. (i.scopes n k).walks) u same quiet i.tasks;
         dead_so = i.dead_so;
-        sixteen = i.sixteen;
         few = i.few;
       }

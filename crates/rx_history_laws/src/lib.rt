@@ -6,6 +6,7 @@
 
 ghost use Rattle.std.specs.Prelude.{[]};
 ghost use Rattle.rx_history_laws.specs.Releases.{NothingIsEarly, LossesAreExact, RunIsNotEarly, RunIsExact, RunMaskedIsLost};
+ghost use Rattle.rx_history_laws.specs.Releases.{WideNothingIsEarly, WideLossesAreExact};
 ghost use Rattle.rx_history_laws.specs.Once.{AllDiffer, EachIsToldOnce};
 ghost use Rattle.rx_history_laws.specs.Ordered.{HistoryIsOrdered, RunIsOrdered};
 ghost use Rattle.rx_history_laws.specs.Examples.{script, no_events, ordinary, lost_in_transit, early, early_at_work, early_elsewhere};
@@ -13,7 +14,7 @@ ghost use Rattle.rx_history_laws.specs.Examples.{unnamed};
 ghost use Rattle.rx_history_laws.specs.Examples.{names_finished, named_again, twice_by_one, twice_by_two, twice_in_entry, print_too_soon};
 ghost use Rattle.rx_history_laws.specs.Examples.{batch_too_soon, event_too_soon, masks_with_loss, masks_without_loss};
 ghost use Rattle.rx_history_laws.specs.Examples.{root_masks_without_loss};
-ghost use Rattle.rx_rules.specs.Inversions.{MaskedMeansLost, MaskedIsLost};
+ghost use Rattle.rx_rules.specs.Inversions.{MaskedMeansLost, MaskedIsLost, WideMaskedIsLost};
 ghost use Rattle.rx_rules.specs.Laws.{NoEarlyRelease, LossExact};
 ghost use Rattle.rx_rules.specs.Order.{OrderKept, told};
 
@@ -43,6 +44,21 @@ pub fn run_is_exact()
 /// scopes below its own names a lost place.
 pub fn masked_is_lost()
     ensures { MaskedIsLost }
+{}
+
+/// Nothing is released early, whatever the limit of places.
+pub fn wide_nothing_is_early()
+    ensures { WideNothingIsEarly }
+{}
+
+/// Losses are exact, whatever the limit of places.
+pub fn wide_losses_are_exact()
+    ensures { WideLossesAreExact }
+{}
+
+/// Masked faults come with losses, whatever the limit of places.
+pub fn wide_masked_is_lost()
+    ensures { WideMaskedIsLost }
 {}
 
 /// Masked faults come with losses in a whole run.

@@ -3,6 +3,7 @@ pub mod Excluded
 pub mod Numbers
 pub mod Inverting
 pub mod Lookups
+pub mod Widths
 pub mod Append
 pub mod Kills
 pub mod Deaths

@@ -1,7 +1,7 @@
 -- The next task number of a fold counts the births.
 use Rattle.std.proofs.Common.{◌≡◌, ℕ, suc, ◌+◌, List, [], ◌∷◌, ◌++◌, not, filter, Some, None, refl, sym, subst, ◌∙◌, arith, add-zero, add-one}
 use Rattle.std.proofs.lemmas.List.Sums.{sum_by-cons}
-use Rattle.rx_rules.proofs.Common.{Fault, TaskId, Tree, is_task, task_of, made, after_end, change_scope, AllAllowed, births, births_of, fold_from, tree_of, opening}
+use Rattle.rx_rules.proofs.Common.{Fault, TaskId, Tree, is_task, task_of, made, after_end, change_scope, AllAllowed, births, births_of, fold_from, tree_of, opening, wide_opening}
 use Rattle.rx_rules.specs.declared.entries.Act.TheVariants.{Open, At as Calls, Spawn, Arrive, Wait, Release, End, Print, Census}
 use Rattle.rx_rules.specs.declared.entries.Entry.{Entry}
 use Rattle.rx_rules.specs.declared.entries.Entry.TheVariants.{Step, Root, Death, Join}
@@ -77,4 +77,4 @@ number-from n T (Join p ∷ es) h = number-from (suc n) (made n T (Join p)) es h
 number-from n T (Death d ∷ es) h = number-from (suc n) (made n T (Death d)) es h.1
 
 pub numbers-in_order : NumbersInOrder
-numbers-in_order places es h = number-from 0 (opening places) es h
+numbers-in_order limit places es h = number-from 0 (wide_opening limit places) es h

@@ -1,5 +1,5 @@
 -- What an entry asks of the tree, and what it makes of it.
-use Rattle.std.specs.Prelude.{◌≡◌, ◌≢◌, ℕ, suc, ◌<◌, ◌≤◌, min, Bool, true, false, cond, not, ◌&&◌, ◌||◌, ◌==◌, List, [], ◌∷◌, ◌++◌, map}
+use Rattle.std.specs.Prelude.{◌≡◌, ◌≢◌, ℕ, suc, ◌<◌, min, Bool, true, false, cond, not, ◌&&◌, ◌||◌, ◌==◌, List, [], ◌∷◌, ◌++◌, map}
 use Rattle.std.specs.Prelude.{filter, length, sum_by, Some, None, is_some, is_none, option_map, slice_set}
 use Rattle.std.specs.List.{list_any}
 use Rattle.rx_base.specs.declared.values.Fault.{Fault}
@@ -7,7 +7,7 @@ use Rattle.rx_base.specs.declared.ids.PlaceId.{PlaceId}
 use Rattle.rx_base.specs.declared.place_set.PlaceSet.{PlaceSet}
 use Rattle.rx_base.specs.declared.ids.TaskId.{TaskId}
 use Rattle.rx_base.specs.declared.ids.ScopeId.{ScopeId}
-use Rattle.rx_base.specs.Sets.{all_places, members}
+use Rattle.rx_base.specs.Sets.{members}
 use Rattle.rx_rules.specs.declared.tasks.Where.{Where}
 use Rattle.rx_rules.specs.declared.tasks.Where.TheVariants.{At, Travel}
 use Rattle.rx_rules.specs.declared.entries.Act.{Act}
@@ -15,7 +15,7 @@ use Rattle.rx_rules.specs.declared.entries.Act.TheVariants.{Open, At as Calls, S
 use Rattle.rx_rules.specs.declared.entries.Entry.{Entry}
 use Rattle.rx_rules.specs.declared.entries.Entry.TheVariants.{Step, Root, Death, Join}
 use Rattle.rx_rules.specs.Tree.{Tree, Task, Scope, Blow, Kind, Finish, Call, is_task, is_scope, task_of, scope_of, death_of, on_chain}
-use Rattle.rx_rules.specs.Tree.{is_under, quiet, own_scope, inner, governs, the_root}
+use Rattle.rx_rules.specs.Tree.{is_under, quiet, own_scope, inner, governs, places_of, the_root}
 
 -- Changes of the tree.
 
@@ -98,7 +98,7 @@ was_lost_at p x = elim x.struck [ Some b ↦ b.place.0 == p | None ↦ false ]
 
 -- the places at which tasks under the scope were lost, in ascending order
 abbrev pub lost_under : Tree → ScopeId → List ℕ
-lost_under T s = filter (λ p. list_any (λ x. is_under T s x && was_lost_at p x) T.tasks) all_places
+lost_under T s = filter (λ p. list_any (λ x. is_under T s x && was_lost_at p x) T.tasks) (places_of T)
 
 -- the faults of the scope's body, and then those of the tasks that hang under it
 abbrev pub thrown_of : Tree → ScopeId → List Fault
@@ -166,13 +166,14 @@ pub record Unstruck (T : Tree) (t : TaskId) (P : Task → Type 0) : Type 0 where
 abbrev pub AllowedAct : Tree → TaskId → Act → Type 0
 AllowedAct T t act = Unstruck T t (λ x. ActAsks T t x act)
 
--- an entry is allowed; the root is there to be released once, place 0 does not die, and no place dies twice
+-- an entry is allowed; the root is there to be released once, place 0 does not die, no place dies twice, and none joins beyond
+-- the limit
 abbrev pub Allowed : Tree → Entry → Type 0
 Allowed T (Step t act batch) = AllowedAct T t act
 Allowed T (Root lost masked thrown) =
     (g : Scope) × (scope_of T the_root ≡ Some g) × MayFree T the_root lost masked thrown
 Allowed T (Death d) = (d.0 < T.places) × (d.0 ≢ 0) × (death_of T d ≡ None)
-Allowed T (Join p) = (p.0 ≡ T.places) × (p.0 ≤ 15)
+Allowed T (Join p) = (p.0 ≡ T.places) × (p.0 < length T.dead)
 
 -- the task has left, and its faults have joined those of its scope
 abbrev pub after_end : Tree → TaskId → List Fault → Tree

@@ -12,7 +12,7 @@ use Rattle.rx_rules.specs.declared.entries.Entry.TheVariants.{Step, Root}
 use Rattle.rx_rules.specs.declared.events.Cell.{Cell}
 use Rattle.rx_rules.specs.declared.events.PlaceEvent.{PlaceEvent}
 use Rattle.rx_rules.specs.Code.{Block}
-use Rattle.rx_rules.specs.Fold.{opening, AllAllowed, births}
+use Rattle.rx_rules.specs.Fold.{opening, wide_opening, AllAllowed, births}
 use Rattle.rx_rules.specs.Plays.{birth_of, travels, moves_from, cell_of, journal_at}
 use Rattle.rx_rules.specs.Run.{Given, IsRun}
 use Rattle.rx_rules.specs.Examples.{p, loss_in_transit}
@@ -91,7 +91,7 @@ CountFrom n (k ∷ ks) = (k ≡ n) × CountFrom (suc n) ks
 -- tasks and scopes are numbered in the order of births and openings, from 1, since task 0 and the root are there before
 abbrev pub NumbersInOrder : Type 0
 NumbersInOrder =
-    (places : ℕ) (es : List Entry) → AllAllowed 0 (opening places) es → CountFrom 1 (filter_map born_in es)
+    (limit places : ℕ) (es : List Entry) → AllAllowed 0 (wide_opening limit places) es → CountFrom 1 (filter_map born_in es)
     × CountFrom 1 (filter_map opened_in es)
 
 -- of a release that masks faults the set of lost places is not empty
@@ -104,4 +104,10 @@ MaskedMeansLost _ = Unit {0}
 abbrev pub MaskedIsLost : Type 0
 MaskedIsLost =
     (places : ℕ) (es : List Entry) → 1 ≤ places → places ≤ 16 → AllAllowed 0 (opening places) es →
+    (i : ℕ) (e : Entry) → slice_get es i ≡ Some e → MaskedMeansLost e
+
+-- the same whatever the limit of places
+abbrev pub WideMaskedIsLost : Type 0
+WideMaskedIsLost =
+    (limit places : ℕ) (es : List Entry) → 1 ≤ places → places ≤ limit → AllAllowed 0 (wide_opening limit places) es →
     (i : ℕ) (e : Entry) → slice_get es i ≡ Some e → MaskedMeansLost e

@@ -2,7 +2,7 @@
 -- what stands before it alone: `past` is that, the newest entry first.
 use Rattle.std.specs.Prelude.{◌≡◌, ℕ, Bool, true, false, cond, not, ◌&&◌, ◌||◌, ◌==◌, List, [], ◌∷◌, filter, Option, Some, None, is_some}
 use Rattle.std.specs.Option.{option_or}
-use Rattle.std.specs.List.{list_any, list_all, cons_option}
+use Rattle.std.specs.List.{list_any, list_all, range_with_len, cons_option}
 use Rattle.rx_base.specs.declared.place_set.PlaceSet.{PlaceSet}
 use Rattle.rx_base.specs.Sets.{all_places, members}
 use Rattle.rx_rules.specs.declared.entries.Act.TheVariants.{Open, At as Calls, Spawn, Arrive, Release, End}
@@ -151,3 +151,12 @@ NamesLost past s lost = members lost ≡ filter (λ p. list_any (is_named past s
 -- each release of s names the places at which such tasks were lost, and no other
 abbrev pub LossExact : List Entry → Type 0
 LossExact es = EachRelease NamesLost [] es
+
+-- the same where there can be as many places as the limit tells
+abbrev pub NamesLostOf : ℕ → List Entry → ℕ → PlaceSet → Type 0
+NamesLostOf limit past s lost =
+    members lost ≡ filter (λ p. list_any (is_named past s p) (born_so_far past)) (range_with_len 0 limit)
+
+-- each release of s names the places at which such tasks were lost, and no other
+abbrev pub LossExactOf : ℕ → List Entry → Type 0
+LossExactOf limit es = EachRelease (NamesLostOf limit) [] es

@@ -1,6 +1,6 @@
 -- The tree of tasks and scopes that a history folds to.
-use Rattle.std.specs.Prelude.{ℕ, Bool, true, false, cond, not, ◌&&◌, ◌==◌, List, [], ◌∷◌, Option, Some, None, is_none, slice_index_or}
-use Rattle.std.specs.List.{list_any, find}
+use Rattle.std.specs.Prelude.{ℕ, Bool, true, false, cond, not, ◌&&◌, ◌==◌, List, [], ◌∷◌, Option, Some, None, is_none, length, slice_index_or}
+use Rattle.std.specs.List.{list_any, find, range_with_len}
 use Rattle.rx_base.specs.declared.ids.PlaceId.{PlaceId}
 use Rattle.rx_base.specs.declared.ids.TaskId.{TaskId}
 use Rattle.rx_base.specs.declared.ids.ScopeId.{ScopeId}
@@ -19,7 +19,7 @@ pub record Tree : Type 0 where
   -- struck tasks that a release has removed
   pub gone : List Task
   pub places : ℕ
-  -- for each of 16 places the number of its death, if it is dead
+  -- for each place that there can be the number of its death, if it is dead; the length is the limit of places
   pub dead : List (Option ℕ)
   -- the numbers of the next task and of the next scope
   pub next_task : ℕ
@@ -46,6 +46,10 @@ scope_of T s = find (is_scope s) T.scopes
 -- the number of the death of a place
 abbrev pub death_of : Tree → PlaceId → Option ℕ
 death_of T p = slice_index_or T.dead p.0 None
+
+-- the places that there can be, in ascending order
+abbrev pub places_of : Tree → List ℕ
+places_of T = range_with_len 0 (length T.dead)
 
 -- the task opened the scope
 abbrev pub opened_by : TaskId → Scope → Bool

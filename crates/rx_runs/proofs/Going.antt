@@ -27,6 +27,7 @@ use Rattle.rx_rules.specs.Plays.{Fits}
 use Rattle.rx_rules.specs.Picked as picked
 use Rattle.rx_rules.specs.Picked.{Turns, opens}
 use Rattle.rx_rules.proofs.Append.{no_root-push, root-push}
+use Rattle.rx_rules.proofs.Widths.{limit-tree, sixteen_places}
 use Rattle.rx_tree_laws.proofs.Enabling.{none_left, inner_is}
 use Rattle.rx_tree_laws.proofs.Rooting.{root_stands}
 use Rattle.rx_runs.specs.Framing.{frames, first, kinds_of, Match, TermFits, TermsFit}
@@ -53,10 +54,11 @@ due_or n [] = inr tt
 due_or n (x ∷ xs) = ⊎_elim (λ (lt : n < x.moment). inr lt) (λ (ge : x.moment ≤ n). inl (x.entry, (refl, ge))) (cases_lt n x.moment)
 
 -- what a release names there is
-names : (T : Tree) (s : ScopeId) → quiet T s ≡ true → (lost : PlaceSet) × MayFree T s lost (masked_under T s) (thrown_of T s) × (lost.0 < 2 ^ 16)
-names T s still =
-    let m = set_members (λ p. list_any (λ x. is_under T s x && was_lost_at p x) T.tasks) in
-    (m.0, record { is_quiet = still; places = m.1; count = refl; faults = refl }, m.2)
+names : (T : Tree) (s : ScopeId) → length T.dead ≡ 16 → quiet T s ≡ true → (lost : PlaceSet) × MayFree T s lost (masked_under T s) (thrown_of T s) × (lost.0 < 2 ^ 16)
+names T s size still =
+    let f : ℕ → Bool = λ p. list_any (λ x. is_under T s x && was_lost_at p x) T.tasks in
+    let m = set_members f in
+    (m.0, record { is_quiet = still; places = m.1 ∙ ap (filter f) (sym (sixteen_places T size)); count = refl; faults = refl }, m.2)
 
 -- one entry more
 fits_push : (es : List Entry) (e : Entry) → SetsFit es → SetsFit (e ∷ []) → SetsFit (es ++ e ∷ [])
@@ -142,7 +144,7 @@ module _ (U : Given) (k : ℕ) (G : Game) (free : NoneDue (length G.entries) G.p
       let waits : x.waits ≡ true = waits_is true (ap first f.1) in
       let at_own : inner T x ≡ own.0.number = inner_is T x own.0 own.1 in
       let still : quiet T own.0.number ≡ true = ap (quiet T) (sym at_own) ∙ sym (ap (λ b. not b || quiet T (inner T x)) waits) ∙ one.able in
-      let n = names T own.0.number still in
+      let n = names T own.0.number (limit-tree U.places G.entries) still in
       let act : Act = Release own.0.number n.0 (masked_under T own.0.number) (thrown_of T own.0.number) in
       by_act act (subst (λ (d : Does). Fits here q.term d (Release own.0.number n.0 (masked_under T own.0.number) (thrown_of T own.0.number))) (sym e) tt)
       (allowed act (waits, own.0, (own.1, refl), n.1)) n.2
@@ -189,7 +191,7 @@ module _ (code : Block) (U : Given) (G : Game) (ok : GameOk code U G) (all : Ter
   by_enabled free [] e =
       let T : Tree = tree_in U G in
       let root = root_stands U.places G.entries ok.folds.some ok.folds.few ok.folds.allowed ok.no_root in
-      let n = names T the_root (none_left T (reached_in code U G ok) e) in
+      let n = names T the_root (limit-tree U.places G.entries) (none_left T (reached_in code U G ok) e) in
       (false, _, picked.root n.0 (masked_under T the_root) (thrown_of T the_root) free e (root.0, root.1, n.1), λ h. fits_push G.entries (Root n.0 (masked_under T the_root) (thrown_of T the_root)) h (n.2, tt))
   by_enabled free (y ∷ ys) e =
       let size : length (enabled (tree_in U G)) ≡ suc (length ys) = ap length e in

@@ -10,6 +10,7 @@ use Rattle.rx_rules.specs.declared.tasks.Scope.{Scope}
 use Rattle.rx_tree_laws.specs.Chains.{Falls}
 use Rattle.rx_tree_laws.specs.Sound.{TasksFall, Sound, ReachedSound}
 use Rattle.rx_tree_laws.proofs.Stay.{fall_filter}
+use Rattle.rx_tree.specs.Kept.{Narrow}
 use Rattle.rx_tree.specs.Inside.Positions.{IsFirst, PassesNone, FallsIn, TasksFallIn, ScopesFallIn, RowsInOrder, BeginsAt}
 
 -- the elements above t stand in front
@@ -200,10 +201,13 @@ scopes_fall_in n [] falls = λ i j d lt within. absurd (omega arith)
 scopes_fall_in n (g ∷ gs) falls = falls_more (λ g. g.number.0) g gs (scopes_fall_in g.number.0 gs falls.1) (λ k d within. scopes_low g.number.0 gs k d falls.1 within)
 
 -- the tree that is kept, where it is one of those for which the ledger stands
-pub kept_sound : (K : Tree) (M : Tree → Type 0) → ReachedSound → (room : ℕ) × (T : Tree) × ((K ≡ T) × Reached T) × M T → Sound K
-kept_sound K M law w = law K (subst Reached (sym w.2.0) w.2.1)
+pub kept_sound : (K : Tree) (M : Tree → Type 0) → ReachedSound → (room : ℕ) × (T : Tree) × ((K ≡ T) × Narrow T) × M T → Sound K
+kept_sound K M law w = law K (subst Reached (sym w.2.0) w.2.1.0)
 
-pub in_order : (K : Tree) (M : Tree → Type 0) → ReachedSound → (room : ℕ) × (T : Tree) × ((K ≡ T) × Reached T) × M T → RowsInOrder K
+pub kept_narrow : (K : Tree) (M : Tree → Type 0) → (room : ℕ) × (T : Tree) × ((K ≡ T) × Narrow T) × M T → length K.dead ≡ 16
+kept_narrow K M w = ap (λ (T : Tree). length T.dead) w.2.0 ∙ w.2.1.1
+
+pub in_order : (K : Tree) (M : Tree → Type 0) → ReachedSound → (room : ℕ) × (T : Tree) × ((K ≡ T) × Narrow T) × M T → RowsInOrder K
 in_order K M law w =
     let sound : Sound K = kept_sound K M law w in
     record {

@@ -1,11 +1,12 @@
 -- What a release leaves.
-use Rattle.std.proofs.Common.{◌≡◌, ℕ, ◌<◌, min, Bool, true, false, not, ◌&&◌, ◌==◌, List, [], ◌∷◌, ◌++◌, filter, length, sum_by, Some, None, is_some, option_map, Result, Ok, Err, OnOk, slice_index_or, slice_set, refl, ap, ◌∙◌, lit<}
+use Rattle.std.proofs.Common.{◌≡◌, ℕ, ◌<◌, min, Bool, true, false, not, ◌&&◌, ◌==◌, List, [], ◌∷◌, ◌++◌, filter, length, sum_by, Some, None, is_some, option_map, Result, Ok, Err, OnOk, slice_index_or, slice_set, refl, sym, ap, ◌∙◌, lit<}
 use Rattle.std.specs.List.{find, list_any}
 use Rattle.std.proofs.lemmas.Bool.{eq-eqb}
 use Rattle.std.proofs.lemmas.List.Elements.{filter_agree}
 use Rattle.rx_rules.proofs.Common.{PlaceId, PlaceSet, ScopeId, Fault, all_places, members, has_bit, Tree, is_scope, is_under, on_chain, chain_in, quiet, MayFree, without, thrown_of, was_lost_at, change_first}
 use Rattle.rx_rules.specs.declared.tasks.Task.{Task}
 use Rattle.rx_rules.specs.declared.tasks.Scope.{Scope}
+use Rattle.rx_rules.proofs.Widths.{sixteen_places}
 use Rattle.rx_tree.specs.Inside.Positions.{IsFirst}
 use Rattle.rx_tree.specs.Inside.Removal.{holds_scope}
 use Rattle.rx_tree.proofs.Firsts.{at_first}
@@ -55,11 +56,12 @@ any_agree p q h [] = refl
 any_agree p q h (x ∷ xs) = rw (h x, any_agree p q h xs)
 
 -- what a release names and counts, where the scopes under it were gathered
-pub names : (T : Tree) (s : ScopeId) (inside : List ScopeId) (lost : PlaceSet) (masked : ℕ) (thrown : List Fault) → ((r : ScopeId) → holds_scope inside r ≡ list_any (is_scope s) (chain_in T.scopes (Some r))) → quiet T s ≡ true → members lost ≡ filter (λ p. list_any (λ x. holds_scope inside x.under && was_lost_at p x) T.tasks) all_places → masked ≡ min 4294967295 (sum_by (λ g. length (g.body ++ g.ends)) (filter (λ g. holds_scope inside g.number && not (is_scope s g)) T.scopes)) → thrown ≡ thrown_of T s → MayFree T s lost masked thrown
-names T s inside lost masked thrown h q l m t =
+pub names : (T : Tree) (s : ScopeId) → length T.dead ≡ 16 → (inside : List ScopeId) (lost : PlaceSet) (masked : ℕ) (thrown : List Fault) → ((r : ScopeId) → holds_scope inside r ≡ list_any (is_scope s) (chain_in T.scopes (Some r))) → quiet T s ≡ true → members lost ≡ filter (λ p. list_any (λ x. holds_scope inside x.under && was_lost_at p x) T.tasks) all_places → masked ≡ min 4294967295 (sum_by (λ g. length (g.body ++ g.ends)) (filter (λ g. holds_scope inside g.number && not (is_scope s g)) T.scopes)) → thrown ≡ thrown_of T s → MayFree T s lost masked thrown
+names T s size inside lost masked thrown h q l m t =
     record {
       is_quiet = q;
-      places = l ∙ filter_agree (λ p. list_any (λ x. holds_scope inside x.under && was_lost_at p x) T.tasks) (λ p. list_any (λ x. is_under T s x && was_lost_at p x) T.tasks) (λ p. any_agree (λ x. holds_scope inside x.under && was_lost_at p x) (λ x. is_under T s x && was_lost_at p x) (λ x. ap (λ b. b && was_lost_at p x) (h x.under)) T.tasks) all_places;
+      places = l ∙ filter_agree (λ p. list_any (λ x. holds_scope inside x.under && was_lost_at p x) T.tasks) (λ p. list_any (λ x. is_under T s x && was_lost_at p x) T.tasks) (λ p. any_agree (λ x. holds_scope inside x.under && was_lost_at p x) (λ x. is_under T s x && was_lost_at p x) (λ x. ap (λ b. b && was_lost_at p x) (h x.under)) T.tasks) all_places
+          ∙ ap (filter (λ p. list_any (λ x. is_under T s x && was_lost_at p x) T.tasks)) (sym (sixteen_places T size));
       count = m ∙ ap (λ (gs : List Scope). min 4294967295 (sum_by (λ g. length (g.body ++ g.ends)) gs)) (filter_agree (λ g. holds_scope inside g.number && not (is_scope s g)) (λ g. on_chain T s g.number && not (is_scope s g)) (λ g. ap (λ b. b && not (is_scope s g)) (h g.number)) T.scopes);
       faults = t;
     }

@@ -1,11 +1,10 @@
 // The plain ledger.
-ghost use Rattle.std.specs.Prelude.{◌≡◌, ◌≤◌, ◌&&◌, ℕ, is_none, find, option_map, IfOk};
+ghost use Rattle.std.specs.Prelude.{◌≡◌, ◌≤◌, ◌&&◌, ℕ, is_none, find, option_map, length, IfOk};
 ghost use Rattle.rx_rules.specs.Tree.{Tree, is_under, quiet};
 ghost use Rattle.rx_rules.specs.Entries.{thrown_of};
 ghost use Rattle.rx_rules.specs.Fold.{opening};
-ghost use Rattle.rx_rules.specs.Reached.{Reached};
 ghost use Rattle.rx_finish.specs.Calls.{blow_of, landing};
-ghost use Rattle.rx_tree.specs.Kept.{kept};
+ghost use Rattle.rx_tree.specs.Kept.{kept, Narrow};
 ghost use Rattle.rx_tree.specs.Inside.Positions.{RowsInOrder};
 ghost use Rattle.rx_tree.specs.Inside.Removal.{LeaveReply};
 
@@ -117,7 +116,7 @@ impl TreeLedger {
 
     /// Releases the scope where nothing hinders it: what is below it leaves with it.
     fn leave(&mut self, s: ScopeId) -> Result<Outcome, LedgerFault>
-        requires { RowsInOrder (kept self.old) }
+        requires { RowsInOrder (kept self.old) × (length self.old.dead ≡ 16) }
         ensures { LeaveReply (kept self.old) s result (kept self.new) }
     {
         if let Some(place) = self.hindrance(s) {
@@ -162,7 +161,7 @@ impl TreeLedger {
 }
 
 impl FinishLedger for TreeLedger {
-    ghost stands = { λ l room T. (kept l ≡ T) × Reached T };
+    ghost stands = { λ l room T. (kept l ≡ T) × Narrow T };
 
     fn open_finish(&mut self, who: Caller) -> Result<ScopeId, LedgerFault> {
         rx_tree_laws::reached_is_sound();

@@ -1,16 +1,17 @@
 -- A history of allowed entries folds to a tree that can be reached, and its dead are those that the history tells.
 use Rattle.std.proofs.Common.{◌≡◌, ℕ, zero, suc, ◌+◌, ◌<◌, ◌≤◌, ◌==◌, cond, Bool, true, false, length, List, [], ◌∷◌, ◌++◌, not, filter, replicate, slice_index_or, slice_set, Option, Some, None, All, refl, sym, subst, ap, ◌∙◌, arith}
 use Rattle.std.proofs.lemmas.Bool.{eqb-true, eqb-false}
-use Rattle.std.proofs.lemmas.List.{get_or-set_same, get_or-set_other}
+use Rattle.std.proofs.lemmas.List.{length-replicate, get_or-set_same, get_or-set_other}
 use Rattle.std.proofs.lemmas.List.Elements.{All-set}
-use Rattle.rx_rules.proofs.Common.{PlaceId, TaskId, Fault, Tree, is_task, task_of, death_of, Allowed, made, made_act, after_end, change_scope, AllAllowed, opening, fold_from, Reached, IsOlder, opens, acts, dies, joins, death_number}
+use Rattle.rx_rules.proofs.Common.{PlaceId, TaskId, Fault, Tree, is_task, task_of, death_of, Allowed, made, made_act, after_end, change_scope, AllAllowed, wide_opening, fold_from, Reached, IsOlder, opens, acts, dies, joins, death_number}
 use Rattle.rx_rules.specs.declared.entries.Act.TheVariants.{Open, At as Calls, Spawn, Arrive, Wait, Release, End, Print, Census}
 use Rattle.rx_rules.specs.declared.entries.Entry.{Entry}
 use Rattle.rx_rules.specs.declared.entries.Entry.TheVariants.{Step, Root, Death, Join}
 use Rattle.rx_rules.specs.declared.entries.Act.{Act}
 use Rattle.rx_rules.specs.Reached.{ends}
 use Rattle.rx_tree_laws.specs.Sound.{Sound}
-use Rattle.rx_tree_laws.specs.Histories.{FoldReached, DeadAsTold}
+use Rattle.rx_tree_laws.specs.Histories.{FoldReached, DeadAsTold, WideFoldReached, WideDeadAsTold}
+pub use Rattle.rx_tree_laws.proofs.Reach.{no_dead}
 use Rattle.rx_tree_laws.proofs.Reached.{sound}
 
 older : (n : ℕ) (o : Option ℕ) → IsOlder n o → IsOlder (suc n) o
@@ -71,11 +72,17 @@ none_there n zero k d low = absurd (omega arith)
 none_there n (suc m) zero d low = tt
 none_there n (suc m) (suc k) d low = none_there n m k d (omega arith)
 
+pub none_yet_of : (limit : ℕ) → All (IsOlder 0) (replicate limit None)
+none_yet_of limit = λ k d low. none_there 0 limit k d (subst (λ n. k < n) (length-replicate limit None) low)
+
 pub none_yet : All (IsOlder 0) (replicate 16 None)
-none_yet = λ k d low. none_there 0 16 k d low
+none_yet = none_yet_of 16
+
+pub wide_fold_reached : WideFoldReached
+wide_fold_reached limit places es low high h = reaches 0 (wide_opening limit places) es (opens places low high) (none_yet_of limit) h
 
 pub fold_reached : FoldReached
-fold_reached places es low high h = reaches 0 (opening places) es (opens places low high) none_yet h
+fold_reached = wide_fold_reached 16
 
 -- The dead.
 
@@ -109,15 +116,13 @@ told_from n T (Join j ∷ es) p r o h =
     told_from (suc n) (made n T (Join j)) es p (reached_now n T (Join j) r o h.0) (dead-now n T (Join j) o) h.1
 told_from n T (Death d ∷ es) p r o h =
     let s : Sound T = sound r in
-    let inside : d.0 < length T.dead = (let a : d.0 < T.places = h.0.0 in let b : T.places ≤ 16 = s.few in let c : length T.dead ≡ 16 = s.cells in omega arith) in
+    let inside : d.0 < length T.dead = (let a : d.0 < T.places = h.0.0 in let b : T.places ≤ length T.dead = s.few in omega arith) in
     told_from (suc n) (made n T (Death d)) es p (reached_now n T (Death d) r o h.0) (dead-now n T (Death d) o) h.1
     ∙ told_death n T d p (death_number (suc n) p es) inside h.0.2 (d.0 == p.0) refl
 
-pub no_dead : (n p : ℕ) → slice_index_or {A = Option ℕ} (replicate n None) p None ≡ None
-no_dead zero p = refl
-no_dead (suc n) zero = refl
-no_dead (suc n) (suc p) = no_dead n p
+pub wide_dead_as_told : WideDeadAsTold
+wide_dead_as_told limit places es p low high h =
+    told_from 0 (wide_opening limit places) es p (opens places low high) (none_yet_of limit) h ∙ ap (λ (o : Option ℕ). first_of o (death_number 0 p es)) (no_dead limit p.0)
 
 pub dead_as_told : DeadAsTold
-dead_as_told places es p low high h =
-    told_from 0 (opening places) es p (opens places low high) none_yet h ∙ ap (λ (o : Option ℕ). first_of o (death_number 0 p es)) (no_dead 16 p.0)
+dead_as_told = wide_dead_as_told 16

@@ -155,7 +155,6 @@ sound_opened T t x p kind s h stands at e =
       root_home = or_from _ _ (and_left (s.0 == 0) _ new) h.root_home;
       root_kind = or_from _ _ (and_left (s.0 == 0) _ new) h.root_kind;
       numbered = omega arith;
-      cells = h.cells;
       few = h.few;
     }
 

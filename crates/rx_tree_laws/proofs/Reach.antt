@@ -1,9 +1,9 @@
 -- Each entry that is allowed keeps a tree sound.
-use Rattle.std.proofs.Common.{◌≡◌, ℕ, ◌<◌, ◌≤◌, Bool, true, false, cond, ◌||◌, ◌&&◌, ◌==◌, not, List, [], ◌∷◌, Option, Some, None, filter, map, slice_set, length, All, refl, sym, ap, ◌∙◌, subst, arith, ltb, ⊎_elim}
+use Rattle.std.proofs.Common.{◌≡◌, ℕ, zero, suc, ◌<◌, ◌≤◌, Bool, true, false, cond, ◌||◌, ◌&&◌, ◌==◌, not, List, [], ◌∷◌, Option, Some, None, filter, map, slice_set, slice_index_or, replicate, option_map, length, All, refl, sym, ap, ◌∙◌, subst, arith, ltb, ⊎_elim}
 use Rattle.std.specs.List.{find, list_any}
 use Rattle.std.proofs.lemmas.Bool.{eqb-true, ne_eqb, true≢false}
-use Rattle.std.proofs.lemmas.List.{get_or-set_other, length-set}
-use Rattle.rx_rules.proofs.Common.{Fault, PlaceId, TaskId, ScopeId, Tree, is_task, task_of, is_scope, opened_by, own_scope, is_finish, the_root, change_first, change_task, change_scope, add_task, born, strike, hit, AllowedAct, Allowed, opening, IsOlder}
+use Rattle.std.proofs.lemmas.List.{get_or-set_other, length-replicate, length-set}
+use Rattle.rx_rules.proofs.Common.{Fault, PlaceId, TaskId, ScopeId, Tree, is_task, task_of, is_scope, opened_by, own_scope, is_finish, the_root, change_first, change_task, change_scope, add_task, born, strike, hit, AllowedAct, Allowed, wide_opening, IsOlder}
 use Rattle.rx_rules.specs.declared.tasks.Where.TheVariants.{At, Travel}
 use Rattle.rx_rules.specs.declared.tasks.Blow.{Blow}
 use Rattle.rx_rules.specs.declared.tasks.Task.{Task}
@@ -18,20 +18,25 @@ use Rattle.rx_tree_laws.proofs.Changes.{each_found, each_more, each_map, each_ch
 use Rattle.rx_tree_laws.proofs.Stay.{opened_stays, find_change, fall_change, fall_filter, fall_map, find_filter, find_map, faulted, meets_faulted, falls_faulted, any_faulted, opened_faulted}
 use Rattle.rx_tree_laws.proofs.Blows.{struck_after, still_struck, hit_number, hit_under, hit_place}
 
-pub sound_opening : (places : ℕ) → 1 ≤ places → places ≤ 16 → Sound (opening places)
-sound_opening places low high =
+-- where nobody has died no flag is set
+pub no_dead : (n p : ℕ) → slice_index_or {A = Option ℕ} (replicate n None) p None ≡ None
+no_dead zero p = refl
+no_dead (suc n) zero = refl
+no_dead (suc n) (suc p) = no_dead n p
+
+pub sound_opening : (limit places : ℕ) → 1 ≤ places → places ≤ limit → Sound (wide_opening limit places)
+sound_opening limit places low high =
     record {
       falls = (omega arith, tt);
       opened = ((refl, refl), tt);
       tasks_fall = (omega arith, tt);
-      tasks = (record { struck = refl; inside = low; rooted = refl }, tt);
+      tasks = (record { struck = sym (ap (option_map (λ n. let b : Blow = record { place = record { 0 = 0 }; entry = n } in b)) (no_dead limit 0)); inside = low; rooted = refl }, tt);
       gone = tt;
-      zero_lives = refl;
+      zero_lives = no_dead limit 0;
       root_home = refl;
       root_kind = refl;
       numbered = omega arith;
-      cells = refl;
-      few = high;
+      few = subst (λ n. places ≤ n) (sym (length-replicate limit None)) high;
     }
 
 -- who stands has a number below the next
@@ -83,7 +88,6 @@ sound_add T x h e fits =
       root_home = h.root_home;
       root_kind = h.root_kind;
       numbered = h.numbered;
-      cells = h.cells;
       few = h.few;
     }
 
@@ -110,7 +114,6 @@ sound_task T t x f h stands number under place fits =
       root_home = h.root_home;
       root_kind = h.root_kind;
       numbered = h.numbered;
-      cells = h.cells;
       few = h.few;
     }
 
@@ -148,7 +151,6 @@ sound_faults T s b e h =
       root_home = any_faulted b e (is_scope s) (λ g. is_scope the_root g && not (g.home.0 == 0)) (λ g. refl) T.scopes ∙ h.root_home;
       root_kind = any_faulted b e (is_scope s) (λ g. is_scope the_root g && not (is_finish g.kind)) (λ g. refl) T.scopes ∙ h.root_kind;
       numbered = h.numbered;
-      cells = h.cells;
       few = h.few;
     }
 
@@ -156,7 +158,7 @@ sound_faults T s b e h =
 
 pub sound_dies : (T : Tree) (b : Blow) → Sound T → Allowed T (Death b.place) → All (IsOlder b.entry) T.dead → Sound (strike b T)
 sound_dies T b h may old =
-    let inside : b.place.0 < length T.dead = (let p : b.place.0 < T.places = may.0 in let q : T.places ≤ 16 = h.few in let r : length T.dead ≡ 16 = h.cells in omega arith) in
+    let inside : b.place.0 < length T.dead = (let p : b.place.0 < T.places = may.0 in let q : T.places ≤ length T.dead = h.few in omega arith) in
     record {
       falls = h.falls;
       opened =
@@ -177,8 +179,7 @@ sound_dies T b h may old =
       root_home = h.root_home;
       root_kind = h.root_kind;
       numbered = h.numbered;
-      cells = length-set T.dead b.place.0 (Some b.entry) ∙ h.cells;
-      few = h.few;
+      few = let e : length (slice_set T.dead b.place.0 (Some b.entry)) ≡ length T.dead = length-set T.dead b.place.0 (Some b.entry) in let q : T.places ≤ length T.dead = h.few in omega arith;
     }
 
 -- Ends.
@@ -213,6 +214,5 @@ sound_leaves T t h own =
       root_home = h.root_home;
       root_kind = h.root_kind;
       numbered = h.numbered;
-      cells = h.cells;
       few = h.few;
     }

@@ -1,5 +1,5 @@
 -- Each tree that a history can reach is sound.
-use Rattle.std.proofs.Common.{◌≡◌, ℕ, suc, ◌<◌, ◌≤◌, true, false, ◌==◌, List, ◌∷◌, ◌++◌, is_some, find, Option, Some, None, filter, not, refl, sym, ap, ◌∙◌, subst, arith}
+use Rattle.std.proofs.Common.{◌≡◌, ℕ, suc, ◌<◌, true, false, ◌==◌, List, ◌∷◌, ◌++◌, is_some, find, Option, Some, None, filter, length, not, refl, sym, ap, ◌∙◌, subst, arith}
 use Rattle.std.proofs.lemmas.Bool.{eq-eqb, ne_eqb, or_right, and_right}
 use Rattle.rx_rules.proofs.Common.{Fault, PlaceId, TaskId, ScopeId, Tree, task_of, is_task, inner, is_under, the_root, AllowedAct, Allowed, made_act, after_end, without, opened, born, add_task, Reached, opens, acts, dies, joins}
 use Rattle.rx_rules.specs.declared.entries.Act.{Act}
@@ -88,12 +88,11 @@ sound_joins T p h may =
       root_home = h.root_home;
       root_kind = h.root_kind;
       numbered = h.numbered;
-      cells = h.cells;
-      few = let is : p.0 ≡ T.places = may.0 in let low : p.0 ≤ 15 = may.1 in omega arith;
+      few = let is : p.0 ≡ T.places = may.0 in let low : p.0 < length T.dead = may.1 in omega arith;
     }
 
 pub sound : {T : Tree} → Reached T → Sound T
-sound (opens places low high) = sound_opening places low high
+sound (opens {limit = limit} places low high) = sound_opening limit places low high
 sound (acts {T = T} t act h may) = sound_acts T t act (sound h) may
 sound (ends {T = T} lost masked thrown h may) = sound_without T the_root (sound h) may.2.is_quiet
 sound (dies {T = T} b h may old) = sound_dies T b (sound h) may old

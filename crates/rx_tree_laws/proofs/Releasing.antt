@@ -248,6 +248,5 @@ sound_without T s h still =
       root_home = any_filter (λ g. is_scope the_root g && not (g.home.0 == 0)) q T.scopes h.root_home;
       root_kind = any_filter (λ g. is_scope the_root g && not (is_finish g.kind)) q T.scopes h.root_kind;
       numbered = h.numbered;
-      cells = h.cells;
       few = h.few;
     }

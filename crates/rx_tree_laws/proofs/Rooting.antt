@@ -2,7 +2,7 @@
 use Rattle.std.proofs.Common.{◌≡◌, ℕ, suc, ◌<◌, ◌≤◌, Bool, true, ◌==◌, not, List, [], ◌∷◌, ◌++◌, filter, Option, Some, None, All, refl, ap, ◌∙◌, arith}
 use Rattle.std.specs.List.{list_any}
 use Rattle.std.proofs.lemmas.Bool.{eqb-true, or_right, false_from_ne_true}
-use Rattle.rx_rules.proofs.Common.{TaskId, ScopeId, Fault, Tree, task_of, own_scope, is_scope, on_chain, the_root, made, made_act, after_end, AllowedAct, AllAllowed, opening, fold_from, Reached, IsOlder, opens, NoRoot}
+use Rattle.rx_rules.proofs.Common.{TaskId, ScopeId, Fault, Tree, task_of, own_scope, is_scope, on_chain, the_root, made, made_act, after_end, AllowedAct, AllAllowed, wide_opening, fold_from, Reached, IsOlder, opens, NoRoot}
 use Rattle.rx_rules.specs.declared.tasks.Task.{Task}
 use Rattle.rx_rules.specs.declared.tasks.Scope.{Scope}
 use Rattle.rx_rules.specs.declared.entries.Act.{Act}
@@ -11,12 +11,12 @@ use Rattle.rx_rules.specs.declared.entries.Entry.{Entry}
 use Rattle.rx_rules.specs.declared.entries.Entry.TheVariants.{Step, Root, Death, Join}
 use Rattle.rx_tree_laws.specs.Chains.{meets}
 use Rattle.rx_tree_laws.specs.Sound.{Each, Sound}
-use Rattle.rx_tree_laws.specs.Histories.{RootStands}
+use Rattle.rx_tree_laws.specs.Histories.{RootStands, WideRootStands}
 use Rattle.rx_tree_laws.proofs.Stay.{any_faulted}
 use Rattle.rx_tree_laws.proofs.Opening.{own_chain}
 use Rattle.rx_tree_laws.proofs.Releasing.{on_meets, each_all}
 use Rattle.rx_tree_laws.proofs.Reached.{sound}
-use Rattle.rx_tree_laws.proofs.Histories.{reached_now, dead-now, none_yet}
+use Rattle.rx_tree_laws.proofs.Histories.{reached_now, dead-now, none_yet_of}
 use Rattle.rx_tree_laws.proofs.Below.{met_newer, find_kept, any_found, found_any}
 
 abbrev Rooted : Tree → Type 0
@@ -64,5 +64,8 @@ root_from n T (Root lost masked thrown ∷ es) r o h free st = absurd free
 root_from n T (Join p ∷ es) r o h free st = root_from (suc n) (made n T (Join p)) es (reached_now n T (Join p) r o h.0) (dead-now n T (Join p) o) h.1 free st
 root_from n T (Death d ∷ es) r o h free st = root_from (suc n) (made n T (Death d)) es (reached_now n T (Death d) r o h.0) (dead-now n T (Death d) o) h.1 free st
 
+pub wide_root_stands : WideRootStands
+wide_root_stands limit places es low high h free = found_any (is_scope the_root) (fold_from 0 (wide_opening limit places) es).scopes (root_from 0 (wide_opening limit places) es (opens places low high) (none_yet_of limit) h free refl)
+
 pub root_stands : RootStands
-root_stands places es low high h free = found_any (is_scope the_root) (fold_from 0 (opening places) es).scopes (root_from 0 (opening places) es (opens places low high) none_yet h free refl)
+root_stands = wide_root_stands 16

@@ -39,7 +39,7 @@ pub record LeftFits (dead : List (Option ℕ)) (x : Task) : Type 0 where
   pub is_struck : is_some x.struck ≡ true
 
 -- numbers of tasks and scopes fall, tasks are struck as their places tell, and every chain leads to the root, which is a
--- finish at place 0, which lives
+-- finish at place 0, which lives; no more places are there than there can be
 pub record Sound (T : Tree) : Type 0 where
   pub falls : Falls T.next_scope T.scopes
   pub opened : Opened T.tasks T.scopes
@@ -50,8 +50,7 @@ pub record Sound (T : Tree) : Type 0 where
   pub root_home : list_any (λ g. is_scope the_root g && not (g.home.0 == 0)) T.scopes ≡ false
   pub root_kind : list_any (λ g. is_scope the_root g && not (is_finish g.kind)) T.scopes ≡ false
   pub numbered : 1 ≤ T.next_scope
-  pub cells : length T.dead ≡ 16
-  pub few : T.places ≤ 16
+  pub few : T.places ≤ length T.dead
 
 -- each tree that can be reached is sound
 abbrev pub ReachedSound : Type 0

@@ -7,6 +7,7 @@
 
 ghost use Rattle.rx_tree_laws.specs.Sound.{ReachedSound};
 ghost use Rattle.rx_tree_laws.specs.Histories.{FoldReached, DeadAsTold, RootStands};
+ghost use Rattle.rx_tree_laws.specs.Histories.{WideFoldReached, WideDeadAsTold, WideRootStands};
 ghost use Rattle.rx_tree_laws.specs.Owning.{OwnBelow, ReleaseSpares, ReleaseKeeps, ReleasePops, WaiterOwns, OpenersOlder, MeetsChain};
 ghost use Rattle.rx_tree_laws.specs.Enabling.{GreatestEnabled, IdleIsQuiet, OthersStay, FreesOne, WayStays, WalkGoesUp, WalkEnds};
 ghost use Rattle.rx_tree_laws.specs.TermLaws.{HeldReleases, StepsBegin, StoresAtHome, PlacesThere};
@@ -29,6 +30,21 @@ pub fn dead_are_as_told()
 /// A law: until its release the root stands.
 pub fn root_stands_until_released()
     ensures { RootStands }
+{}
+
+/// A law: whatever the limit of places, a history of allowed entries folds to a tree that can be reached.
+pub fn wide_fold_is_reached()
+    ensures { WideFoldReached }
+{}
+
+/// A law: whatever the limit of places, the dead places of that tree and the numbers of their deaths are those of the history.
+pub fn wide_dead_are_as_told()
+    ensures { WideDeadAsTold }
+{}
+
+/// A law: whatever the limit of places, the root stands until its release.
+pub fn wide_root_stands_until_released()
+    ensures { WideRootStands }
 {}
 
 /// A law: a task's own scopes stand below the scope that it hangs under.

@@ -15,6 +15,7 @@ use Rattle.rx_rules.specs.declared.events.PlaceEvent.{PlaceEvent}
 use Rattle.rx_rules.specs.Plays.{Fits}
 use Rattle.rx_rules.proofs.Append.{joins_in, tree-places, tree-push}
 use Rattle.rx_rules.proofs.Numbers.{next-tree}
+use Rattle.rx_rules.proofs.Widths.{limit-tree}
 use Rattle.rx_tree_laws.specs.Histories.{FoldReached}
 use Rattle.rx_tree_laws.specs.Sound.{ReachedSound, Sound}
 use Rattle.rx_tree_laws.proofs.Reached.{sound}
@@ -155,7 +156,9 @@ module _ (shape : Shape) (code : Block) (U : Given) (es : List Entry) (js : List
       let some = p.some in
       let all : T.places ≡ U.places + joins_in before = tree-places U.places before in
       let known : seat.control.vars.places ≤ T.places = subst (λ (v : Vars). v.places ≤ T.places) (sym seated.stood.vars) seated.known in
-      counts_more T task act seat.control.vars.places f.allowed (omega (arith, some, all)) (sound T (reached U.places before p.some p.few p.allowed)).few known
+      let wide : length T.dead ≡ 16 = limit-tree U.places before in
+      let within = (sound T (reached U.places before p.some p.few p.allowed)).few in
+      counts_more T task act seat.control.vars.places f.allowed (omega (arith, some, all)) (omega (arith, wide, within)) known
 
   -- Its slot after the entry.
 

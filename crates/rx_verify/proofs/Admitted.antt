@@ -5,6 +5,7 @@ use Rattle.rx_rules.specs.declared.entries.Act.{Act}
 use Rattle.rx_rules.specs.declared.entries.Entry.{Entry}
 use Rattle.rx_rules.specs.declared.entries.Entry.TheVariants.{Step, Root, Death, Join}
 use Rattle.rx_rules.proofs.Append.{tree-push, root-push, act-places, no_root-push, no_root-death}
+use Rattle.rx_rules.proofs.Widths.{limit-tree}
 use Rattle.rx_tree_laws.specs.Histories.{DeadAsTold}
 use Rattle.rx_runs.specs.Segments.{plan_left, InTime}
 use Rattle.rx_runs.specs.Ties.{MayBe, MayCome}
@@ -101,7 +102,7 @@ module _ {L : Type 0} (stands : L → ℕ → Tree → Type 0) (U : Given) (es :
     joins_below = come_within (in_all U) (suc T.places) es (rest_of xs) rest
 
     pub may_join : Allowed T (Join p)
-    may_join = (next, (let a = next in let b = joins_below in let c : in_all U ≤ 16 = k.proper.few in omega (arith, a, b, c)))
+    may_join = (next, (let a = next in let b = joins_below in let c : in_all U ≤ 16 = k.proper.few in let d = limit-tree U.places es in omega (arith, a, b, c, d)))
 
     -- how many more places may join afterwards
     abbrev pub after_join : ℕ

@@ -99,6 +99,13 @@ def _connect(host: str, port: int, until: float) -> socket.socket:
             time.sleep(RETRY)
 
 
+def _encrypt(sock: socket.socket, tls: ssl.SSLContext, host: str) -> ssl.SSLSocket:
+    try:
+        return tls.wrap_socket(sock, server_hostname=host)
+    except ConnectionError as fault:
+        raise ssl.SSLError(f"the driver hung up, as one does that has no tls= ({fault})") from None
+
+
 def knock(host: str, port: int, token: bytes, number: int = 0, tls: Optional[ssl.SSLContext] = None, wait: float = 10) -> Knocked:
     """A place's line to the hub, within this many seconds.
 
@@ -109,7 +116,7 @@ def knock(host: str, port: int, token: bytes, number: int = 0, tls: Optional[ssl
     try:
         sock.settimeout(max(0.1, until - time.monotonic()))
         if tls is not None:
-            sock = tls.wrap_socket(sock, server_hostname=host)
+            sock = _encrypt(sock, tls, host)
         sock.setsockopt(socket.IPPROTO_TCP, socket.TCP_NODELAY, 1)
         key, version = _prove(sock, token, make_hello(Kind.LINE, number))
         keep_alive(sock)
@@ -205,6 +212,7 @@ class Door(Engine):
         self._strangers: Dict[socket.socket, Stranger] = {}     # the one who has waited longest is the first
         self._lines: Dict[bytes, Newcomer] = {}                 # by session: those whose life has not come yet
         self._idle: Dict[socket.socket, Newcomer] = {}          # by life: those who wait to be taken in
+        self._carriers: List[Carrier] = []
         self._calls: queue.SimpleQueue[Callable[[], None]] = queue.SimpleQueue()
         self._thread: Optional[threading.Thread] = None
         self._closing: Optional[bool] = None                    # whether the job's end is a graceful one, once it has come
@@ -244,6 +252,9 @@ class Door(Engine):
         elif thread is not threading.current_thread():
             self.soon(lambda: self._close(graceful))
             thread.join()
+            until = time.monotonic() + PATIENCE
+            for carrier in self._carriers:                      # the hub's last words are on their way
+                carrier.thread.join(max(0, until - time.monotonic()))
 
     def soon(self, fn: Callable[[], None]) -> None:
         """Has the door's thread do this."""
@@ -345,6 +356,7 @@ class Door(Engine):
             del self._strangers[plain]
             self._selector.unregister(plain)
             stranger.sock = self.tls.wrap_socket(plain, server_side=True, do_handshake_on_connect=False)
+            wire.close_in_children(stranger.sock)
             self._strangers[stranger.sock] = stranger
         stranger.talk = self._greet(stranger, secure)
         self._listen_to(stranger, selectors.EVENT_READ)
@@ -431,7 +443,9 @@ class Door(Engine):
             newcomer.line.close()
             raise
         if isinstance(newcomer.line, ssl.SSLSocket):
-            newcomer.line = Carrier(newcomer.line).line
+            carrier = Carrier(newcomer.line)
+            newcomer.line = carrier.line
+            self._carriers = [it for it in self._carriers if it.thread.is_alive()] + [carrier]
         self._idle[newcomer.life] = newcomer
         self._selector.register(newcomer.life, selectors.EVENT_READ, lambda: self._gone(newcomer))
         self.came(newcomer)

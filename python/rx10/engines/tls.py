@@ -10,7 +10,9 @@ import selectors
 import socket
 import ssl
 import threading
-from typing import Callable, Optional, Tuple, Union
+from typing import Optional, Tuple, Union
+
+from .. import wire
 
 CHUNK = 1 << 16                 # bytes that are carried at a time, in each direction
 Tls = Union[ssl.SSLContext, Tuple[str, str]]
@@ -82,12 +84,14 @@ class _Flow:
 class Carrier:
     """Carries the bytes of one encrypted connection, in a thread of its own."""
 
-    def __init__(self, encrypted: ssl.SSLSocket, then: Optional[Callable[[], None]] = None) -> None:
+    def __init__(self, encrypted: ssl.SSLSocket) -> None:
         self.line, self._near = socket.socketpair()             # `line` is for the hub, or the place
-        self._encrypted, self._then = encrypted, then
+        self._encrypted = encrypted
         for sock in (self._near, encrypted):
             sock.setblocking(False)
-        threading.Thread(target=self._carry, name="rx10 tls", daemon=True).start()
+            wire.close_in_children(sock)
+        self.thread = threading.Thread(target=self._carry, name="rx10 tls", daemon=True)
+        self.thread.start()
 
     def _carry(self) -> None:
         out, back = _Flow(self._near, self._encrypted), _Flow(self._encrypted, self._near)
@@ -109,8 +113,6 @@ class Carrier:
         self._last(out)
         for sock in (self._near, self._encrypted):
             sock.close()
-        if self._then is not None:
-            self._then()
 
     def _last(self, out: _Flow) -> None:
         """What was given to the line before its end still goes out, as far as the other end takes it at once."""
@@ -119,7 +121,6 @@ class Carrier:
             if out.held:
                 self._encrypted.sendall(out.held)
             while not out.ended:
-                self._near.setblocking(False)
                 data = receive(self._near, CHUNK)
                 if not data:
                     break

@@ -1,5 +1,6 @@
-use Rattle.std.proofs.Common.{ℕ, suc, ◌≡◌, ◌-◌, ◌≤◌, arith, refl, sym, ◌∙◌, subst}
+use Rattle.std.proofs.Common.{ℕ, suc, ◌≡◌, ◌-◌, ◌<◌, length, arith, refl, sym, ◌∙◌, subst}
 use Rattle.rx_rules.proofs.Common.{PlaceId, tree_of, Allowed}
+use Rattle.rx_rules.proofs.Widths.{limit-tree}
 use Rattle.rx_rules.specs.declared.entries.Entry.TheVariants.{Join as JoinEntry}
 use Rattle.rx_counts.specs.Stands.{StandsFor}
 use Rattle.rx_coordinator.specs.declared.requests.Request.TheVariants.{Join}
@@ -14,7 +15,8 @@ returns c = λ p es st.
     let is : c.places-places.result ≡ T.places = c.places-places.ensures (16 - T.places) T st.tree in
     let low = c.if-places-ge16.false in
     let q : PlaceId = record { 0 = c.places-places.result } in
-    let most : c.places-places.result ≤ 15 = omega (arith, low) in
+    let wide : length T.dead ≡ 16 = limit-tree p es in
+    let most : c.places-places.result < length T.dead = omega (arith, low, wide) in
     let may : Allowed T (JoinEntry q) = (is, most) in
     let room : 16 - T.places ≡ suc (16 - suc T.places) = omega (arith, is, low) in
     let stood = c.join.ensures (16 - suc T.places) T (subst (λ (n : ℕ). StandsFor c.args.self.now.ledger n T) room st.tree) may in (
@@ -30,4 +32,5 @@ returns-then-is_full c = λ p es st.
     let T = tree_of p es in
     let is : c.places-places.result ≡ T.places = c.places-places.ensures (16 - T.places) T st.tree in
     let low = c.if-places-ge16.false in
-    (may_join T (omega (arith, is, low)), used_up c.args.self.now p es st (c.is_full.ensures.0 c.if-is_full.true) Join (omega arith), st)
+    let wide : length T.dead ≡ 16 = limit-tree p es in
+    (may_join T (omega (arith, is, low, wide)), used_up c.args.self.now p es st (c.is_full.ensures.0 c.if-is_full.true) Join (omega arith), st)

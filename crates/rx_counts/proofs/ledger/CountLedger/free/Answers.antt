@@ -25,4 +25,4 @@ pub returns-in-Ok : goal.returns-in-Ok
 returns-in-Ok c = λ room T s i.
     let o = c.in-Ok.ensures room T s i in
     let t = takes c.args.self.now T c.args.s c.in-Ok.orphans s i o.0.is_quiet o.1 in
-    (o.0, freed c.args.self.now _ T c.args.s c.in-Ok.orphans s i o.0.is_quiet refl refl refl refl refl c.freed-self.ensures t c.remove.ensures.len (c.remove.ensures.taken T t), room_kept c.args.self.now _ T T refl refl s.has_room)
+    (o.0, freed c.args.self.now _ T c.args.s c.in-Ok.orphans s i o.0.is_quiet refl refl refl refl refl c.freed-self.ensures t c.remove.ensures.len (c.remove.ensures.taken T t), room_kept c.args.self.now _ T T refl refl refl s.has_room)

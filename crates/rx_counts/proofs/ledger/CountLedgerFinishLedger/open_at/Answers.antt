@@ -27,7 +27,7 @@ bear-requires c =
     let T : Tree = c.requires.1 in
     let f : Free T c.args.who IsMoving = caller c.args.self.now T c.args.who IsMoving c.requires.2 c.requires.3.asks (sym c.blow_there.ensures ∙ c.in_default.is) in
     rw (c.travel-place.ensures, c.place_of-from.ensures)
-    (call_ok T c.args.who c.args.to c.in-Ok.kept.sums (sound c.requires.2.reached) (wide c.args.self.now T c.requires.2) c.requires.3 f c.in-Ok.ensures.sums)
+    (call_ok T c.args.who c.args.to c.in-Ok.kept.sums (sound c.requires.2.reached) (wide c.args.self.now T c.requires.2) c.requires.2.has_room.few c.requires.3 f c.in-Ok.ensures.sums)
 
 pub returns-in-Err : goal.returns-in-Err
 returns-in-Err c = λ room T s may. call_refused T c.args.who c.args.to c.in-Err.fault _ c.in-Err.ensures.refused.0 (unstruck c.args.self.now T c.args.who IsMoving s may.asks (sym c.blow_there.ensures ∙ c.in_default.is)) (same_records c.args.self.now _ T s refl refl refl refl refl refl c.in-Err.ensures.refused.1)

@@ -24,7 +24,7 @@ bear-requires c =
     let f : Free T c.args.who IsMoving = caller c.args.self.now T c.args.who IsMoving c.requires.2 c.requires.3.asks (sym c.blow_there.ensures ∙ c.in_default.is) in
     let at = keeper_some c.args.self.now T c.finish_of-scope.result c.in-Some-keeper_of.keeper _ c.requires.2 refl c.in-Some-keeper_of.ensures in
     rw (c.travel-place.ensures, c.place_of-from.ensures)
-    (bear_ok T c.args.who c.args.to c.args.self.now.scopes c.in-Some-keeper_of.keeper.0 (Some c.finish_of-scope.result) (sound c.requires.2.reached) (wide c.args.self.now T c.requires.2) c.requires.3 f at c.requires.2.fit.scopes)
+    (bear_ok T c.args.who c.args.to c.args.self.now.scopes c.in-Some-keeper_of.keeper.0 (Some c.finish_of-scope.result) (sound c.requires.2.reached) (wide c.args.self.now T c.requires.2) c.requires.2.has_room.few c.requires.3 f at c.requires.2.fit.scopes)
 
 pub returns-in_default-keeper_of-clause-replies : goal.returns-in_default-keeper_of-clause-replies
 returns-in_default-keeper_of-clause-replies c = λ room T s may.

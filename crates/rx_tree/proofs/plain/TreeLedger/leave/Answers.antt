@@ -38,4 +38,4 @@ returns c =
     let b : c.keep_gone.new.gone.items ≡ c.args.self.now.gone.items ++ filter (λ x. holds_scope inside x.under && is_some x.struck) c.args.self.now.tasks.items = c.in-Ok-keep_gone.ensures.kept ∙ (ap (λ (ss : List ScopeId). c.args.self.now.gone.items ++ filter (λ x. holds_scope ss x.under && is_some x.struck) c.deref-6.result.now) c.deref-7.ensures.value ∙ ap (λ (xs : List Task). c.args.self.now.gone.items ++ filter (λ x. holds_scope inside x.under && is_some x.struck) xs) c.deref-6.ensures.value) in
     let g : c.remove_scopes.new.scopes.items ≡ filter (λ g. not (holds_scope inside g.number)) c.args.self.now.scopes.items = c.remove_scopes.ensures ∙ ap (λ (ss : List ScopeId). filter (λ g. not (holds_scope ss g.number)) c.args.self.now.scopes.items) c.deref-9.ensures.value in
     let q = find_none (λ x. is_under T c.args.s x && is_none x.struck) (λ x. landing x.place) c.args.self.now.tasks.items (sym c.hindrance.ensures ∙ c.in_default.is) in
-    (names T c.args.s inside c.lost_places-lost.result c.masked_faults-masked.result c.in-Ok.thrown h q l m c.in-Ok.ensures, leaves T _ c.args.s inside h (three T _ _ _ _ _ _ a b g))
+    (names T c.args.s c.requires.1 inside c.lost_places-lost.result c.masked_faults-masked.result c.in-Ok.thrown h q l m c.in-Ok.ensures, leaves T _ c.args.s inside h (three T _ _ _ _ _ _ a b g))

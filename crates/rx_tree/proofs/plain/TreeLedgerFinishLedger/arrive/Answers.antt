@@ -23,7 +23,7 @@ returns c =
     ∙ (ap (λ (p : PlaceId). change_first (is_task c.args.who.task) (λ x. record x { place = At p }) c.deref_mut.result.now) c.landing_of.ensures
     ∙ ap (λ (xs : List Task). change_first (is_task c.args.who.task) (λ x. record x { place = At (landing c.args.who.place) }) xs) c.deref_mut.ensures.value))
     in
-    at_kept K _ _ (λ r may. did K _ c.args.who _ r (arrive_allowed K c.args.who r may u) (by_tasks K _ _ lands))
+    at_kept K _ _ (λ r may. did K _ c.args.who _ r (arrive_allowed K c.args.who r.0 may u) (by_tasks K _ _ lands))
 
 pub blow-requires : goal.blow-requires
 blow-requires c = in_order (kept c.args.self.now) _ c.reached_is_sound.ensures c.requires

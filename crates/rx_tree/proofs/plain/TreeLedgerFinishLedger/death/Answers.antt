@@ -1,4 +1,4 @@
-use Rattle.std.proofs.Common.{◌≡◌, map, slice_set, Some, ap, ◌∙◌, rules, ◌<◌, ◌≤◌, arith}
+use Rattle.std.proofs.Common.{◌≡◌, length, map, slice_set, Some, ap, ◌∙◌, rules, ◌<◌, ◌≤◌, arith}
 use Rattle.std.specs.Vec.{with_items}
 use Rattle.std.proofs.lemmas.List.{with_items_is}
 use Rattle.rx_rules.proofs.Common.{hit, Tree}
@@ -11,7 +11,8 @@ pub bounds-self-place : goal.bounds-self-place
 bounds-self-place c =
     let T : Tree = c.requires.1 in
     let below : c.args.place.0 < T.places = c.requires.3.dies.0 in
-    let few : T.places ≤ 16 = places_few c.requires.2.1 in
+    let few : T.places ≤ length T.dead = places_few c.requires.2.1.0 in
+    let size : length T.dead ≡ 16 = c.requires.2.1.1 in
     omega arith
 
 pub returns : goal.returns

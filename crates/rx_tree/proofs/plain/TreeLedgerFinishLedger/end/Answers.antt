@@ -24,8 +24,8 @@ returns c =
     in
     at_kept K _ _
     (λ r may.
-    did K _ c.args.who _ r (end_allowed K c.args.who c.args.thrown r may u)
-    (by_rows K _ _ _ _ c.remove_task.ensures noted ∙ sym (ended_is K c.args.who (IsBare K c.args.who) c.args.thrown r may u)))
+    did K _ c.args.who _ r (end_allowed K c.args.who c.args.thrown r.0 may u)
+    (by_rows K _ _ _ _ c.remove_task.ensures noted ∙ sym (ended_is K c.args.who (IsBare K c.args.who) c.args.thrown r.0 may u)))
 
 pub blow-requires : goal.blow-requires
 blow-requires c = in_order (kept c.args.self.now) _ c.reached_is_sound.ensures c.requires

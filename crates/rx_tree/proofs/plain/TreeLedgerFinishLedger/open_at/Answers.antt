@@ -19,7 +19,7 @@ returns c =
     let u : IsUnstruck K c.args.who = search rules in
     at_kept K _ _
     (λ r may.
-    let home : home_for K c.args.who.task ≡ place_number c.args.who.place = home_is K c.args.who IsMoving r may.asks u in
+    let home : home_for K c.args.who.task ≡ place_number c.args.who.place = home_is K c.args.who IsMoving r.0 may.asks u in
     let callee : Task = born K (record { 0 = K.next_task }) (record { 0 = K.next_scope }) (place_number c.args.who.place) c.args.to in
     let tasks : c.insert_both.new.tasks.items ≡ callee ∷ K.tasks = search rules in
     let scopes : c.insert_both.new.scopes.items ≡ (opened K c.args.who.task Call (record { 0 = K.next_scope }) c.args.who.inner).scopes = search (rules, home) in
@@ -29,7 +29,7 @@ returns c =
     with_items_is c.insert_both.new.tasks c.set_waits.new.tasks (search rules)
     ∙ (c.set_waits.ensures ∙ ap (change_first (is_task c.args.who.task) waiting) (c.deref_mut.ensures.value ∙ tasks))
     in
-    (did K _ c.args.who _ r (call_allowed K c.args.who c.args.to _ _ r may u refl refl) (by_births K _ _ _ _ _ _ _ _ waits scopes more_tasks more_scopes), search rules))
+    (did K _ c.args.who _ r (call_allowed K c.args.who c.args.to _ _ r.0 may u refl refl) (by_births K _ _ _ _ _ _ _ _ waits scopes more_tasks more_scopes), search rules))
 
 pub blow-requires : goal.blow-requires
 blow-requires c = in_order (kept c.args.self.now) _ c.reached_is_sound.ensures c.requires

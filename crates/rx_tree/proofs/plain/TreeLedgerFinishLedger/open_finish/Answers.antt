@@ -15,8 +15,8 @@ returns c =
     let u : IsUnstruck K c.args.who = search rules in
     at_kept K _ _
     (λ r may.
-    let home : home_for K c.args.who.task ≡ place_number c.args.who.place = home_is K c.args.who IsMoving r may u in
-    did K _ c.args.who _ r (open_allowed K c.args.who _ r may u refl) (search (rules, home)))
+    let home : home_for K c.args.who.task ≡ place_number c.args.who.place = home_is K c.args.who IsMoving r.0 may u in
+    did K _ c.args.who _ r (open_allowed K c.args.who _ r.0 may u refl) (search (rules, home)))
 
 pub blow-requires : goal.blow-requires
 blow-requires c = in_order (kept c.args.self.now) _ c.reached_is_sound.ensures c.requires

@@ -7,7 +7,7 @@ use Rattle.rx_tree.proofs.plain.TreeLedgerFinishLedger.print.Goals as goal
 
 pub returns-in-None : goal.returns-in-None
 returns-in-None c =
-    at_kept (kept c.args.self.now) _ _ (λ r may. print_allowed (kept c.args.self.now) c.args.who r may (sym c.blow.ensures ∙ c.in-None.is))
+    at_kept (kept c.args.self.now) _ _ (λ r may. print_allowed (kept c.args.self.now) c.args.who r.0 may (sym c.blow.ensures ∙ c.in-None.is))
 
 pub blow-requires : goal.blow-requires
 blow-requires c = in_order (kept c.args.self.now) _ c.reached_is_sound.ensures c.requires

@@ -6,7 +6,7 @@ use Rattle.rx_finish.specs.Calls.{IsUnstruck}
 use Rattle.rx_tree.specs.Kept.{kept}
 use Rattle.rx_tree.specs.Inside.Removal.{LeaveReply}
 use Rattle.rx_tree.proofs.Replies.{at_kept, released, by_tasks}
-use Rattle.rx_tree.proofs.Falling.{in_order, kept_sound, left_in_order}
+use Rattle.rx_tree.proofs.Falling.{in_order, kept_narrow, kept_sound, left_in_order}
 use Rattle.rx_tree.specs.Inside.Positions.{TasksFallIn}
 use Rattle.rx_tree.proofs.plain.TreeLedgerFinishLedger.release.Goals as goal
 
@@ -26,7 +26,7 @@ pub blow-requires : goal.blow-requires
 blow-requires c = in_order (kept c.args.self.now) _ c.reached_is_sound.ensures c.requires
 
 pub leave-requires : goal.leave-requires
-leave-requires c = in_order (kept c.args.self.now) _ c.reached_is_sound.ensures c.requires
+leave-requires c = (in_order (kept c.args.self.now) _ c.reached_is_sound.ensures c.requires, kept_narrow (kept c.args.self.now) _ c.requires)
 
 pub set_waits-requires : goal.set_waits-requires
 set_waits-requires c =

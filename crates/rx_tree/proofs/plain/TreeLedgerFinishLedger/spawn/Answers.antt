@@ -14,7 +14,7 @@ returns c =
     let u : IsUnstruck K c.args.who = search rules in
     at_kept K _ _
     (λ r may.
-    (did K _ c.args.who _ r (spawn_allowed K c.args.who c.args.to _ _ r may u (search rules) refl) (search rules), search rules))
+    (did K _ c.args.who _ r (spawn_allowed K c.args.who c.args.to _ _ r.0 may u (search rules) refl) (search rules), search rules))
 
 pub blow-requires : goal.blow-requires
 blow-requires c = in_order (kept c.args.self.now) _ c.reached_is_sound.ensures c.requires

@@ -24,7 +24,7 @@ returns c =
     ∙ (c.note_body.ensures
     ∙ ap (λ (gs : List Scope). change_first (is_scope c.args.who.inner) (λ g. record g { body = c.args.thrown }) gs) c.deref_mut.ensures.value)
     in
-    at_kept K _ _ (λ r may. did K _ c.args.who _ r (wait_allowed K c.args.who c.args.thrown r may u) (by_rows K _ _ _ _ waits noted))
+    at_kept K _ _ (λ r may. did K _ c.args.who _ r (wait_allowed K c.args.who c.args.thrown r.0 may u) (by_rows K _ _ _ _ waits noted))
 
 pub blow-requires : goal.blow-requires
 blow-requires c = in_order (kept c.args.self.now) _ c.reached_is_sound.ensures c.requires

@@ -4,7 +4,7 @@ from __future__ import annotations
 
 from typing import Any, Callable, Dict, Optional, Tuple
 
-from .errors import Misuse
+from .errors import Misuse, for_users
 from .finish import Finish
 from .place import Place, current
 
@@ -17,21 +17,28 @@ class Calls:
     def __init__(self, place: Place) -> None:
         self._place = place
 
-    def finish(self, progress: bool = False) -> Finish:
+    @for_users
+    def finish(self, progress: bool = False, limit: Optional[float] = None) -> Finish:
         """A context manager whose end waits for all tasks under it. It raises Faults where places were lost or tasks threw.
 
-        `progress`: while it waits, a line on standard error shows how many of its tasks are done, run, and were lost, in all and by place.
+        Args:
+            progress: while it waits, a line on standard error shows how many of its tasks are done, run, and were lost, in all and by place.
+            limit: seconds from its beginning. When they have passed, the places that still run tasks under it are reported dead, as by
+                `kill`, and the Faults that it raises has `limit` True. Tasks at place 0 are waited for all the same.
         """
-        return Finish(self._place, progress)
+        return Finish(self._place, progress, limit)
 
+    @for_users
     def spawn(self, place: int, fn: Callable, /, *args: Any, **kwargs: Any) -> None:
         """Starts fn(*args, **kwargs) as a task at a place, under the innermost finish around the caller. Its result is dropped."""
         self._place.spawn(place, fn, args, kwargs, False)
 
-    def at(self, place: int, fn: Callable, /, *args: Any, **kwargs: Any) -> Any:
-        """Runs fn(*args, **kwargs) at a place, and returns its value or raises what it raised."""
-        return self._place.at(place, fn, args, kwargs)
+    @for_users
+    def at(self, place: int, fn: Callable, /, *args: Any, limit: Optional[float] = None, **kwargs: Any) -> Any:
+        """Runs fn(*args, **kwargs) at a place, and returns its value or raises what it raised. `limit`: as of a finish, and not fn's."""
+        return self._place.at(place, fn, args, kwargs, limit)
 
+    @for_users
     def join(self, wait: Optional[float] = WAIT) -> int:
         """Takes in one more place and returns its number. Raises Misuse where there can be none, or none comes within `wait` seconds; None
         waits for ever."""
@@ -39,13 +46,16 @@ class Calls:
             raise ValueError("a place needs some time to come")
         with self._place.guard():
             task = self._place.task()
+            task.will_wait()
             place, why = self._place.wait(task, "join", task.key, wait)
+            task.has_waited()
         if place is None:
             raise Misuse(why)
         return place
 
+    @for_users
     def kill(self, place: int) -> None:
-        """Ends a place that is stuck. What ran there is lost."""
+        """Ends a place that is stuck. What ran there is lost. In the driver any thread may call it."""
         self._place.check(place)
         if place == 0:
             raise ValueError("place 0 cannot be ended")
@@ -53,7 +63,7 @@ class Calls:
             self._place.tell("kill", place)
 
     def places(self) -> Tuple[int, ...]:
-        """The places that are not known to be dead, in ascending order. It may be out of date."""
+        """The places that are not known to be dead, in ascending order. It may be out of date. Any thread of this place may ask."""
         return self._place.living
 
     @property
@@ -83,6 +93,7 @@ def closed(driven: Calls) -> None:
     _open.remove(driven)
 
 
+@for_users
 def job() -> Calls:
     """The job of the current task. Raises Misuse where no task runs in this thread."""
     task = current.get(None)
@@ -94,41 +105,49 @@ def job() -> Calls:
     return Calls(task.place)
 
 
-def finish(progress: bool = False) -> Finish:
+@for_users
+def finish(progress: bool = False, limit: Optional[float] = None) -> Finish:
     """`finish` of the current task's job."""
-    return job().finish(progress)
+    return job().finish(progress, limit)
 
 
+@for_users
 def spawn(place: int, fn: Callable, /, *args: Any, **kwargs: Any) -> None:
     """`spawn` of the current task's job."""
     job().spawn(place, fn, *args, **kwargs)
 
 
-def at(place: int, fn: Callable, /, *args: Any, **kwargs: Any) -> Any:
+@for_users
+def at(place: int, fn: Callable, /, *args: Any, limit: Optional[float] = None, **kwargs: Any) -> Any:
     """`at` of the current task's job."""
-    return job().at(place, fn, *args, **kwargs)
+    return job().at(place, fn, *args, limit=limit, **kwargs)
 
 
+@for_users
 def join(wait: Optional[float] = WAIT) -> int:
     """`join` of the current task's job."""
     return job().join(wait)
 
 
+@for_users
 def kill(place: int) -> None:
     """`kill` of the current task's job."""
     job().kill(place)
 
 
+@for_users
 def places() -> Tuple[int, ...]:
     """`places` of the current task's job."""
     return job().places()
 
 
+@for_users
 def here() -> int:
     """The number of this place."""
     return job().here
 
 
+@for_users
 def store() -> Dict[Any, Any]:
     """A dictionary of this place, for what tasks of the job share there."""
     return job().store
@@ -137,11 +156,13 @@ def store() -> Dict[Any, Any]:
 class Ref:
     """A reference to an object that stays at its place. It may travel; the object does not."""
 
+    @for_users
     def __init__(self, thing: Any) -> None:
         here = job()._place
         self.place, self._key = here.number, next(here.serial)
         here.objects[self._key] = thing
 
+    @for_users
     def get(self) -> Any:
         """The object, at its place. Elsewhere, or after `forget`, it raises Misuse."""
         here = job()._place
@@ -151,6 +172,7 @@ class Ref:
             raise Misuse("the object was forgotten")
         return here.objects[self._key]
 
+    @for_users
     def forget(self) -> None:
         """Drops the object, at its place."""
         self.get()

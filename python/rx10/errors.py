@@ -2,8 +2,11 @@
 
 from __future__ import annotations
 
+import functools
+import os
 import sys
-from typing import Iterable, List, Sequence, Tuple
+from types import TracebackType
+from typing import Any, Callable, Iterable, List, Optional, Sequence, Tuple, TypeVar, cast
 
 if sys.version_info >= (3, 11):
     _Group = ExceptionGroup
@@ -36,10 +39,12 @@ class Faults(_Group):
     Attributes:
         lost: the places that this finish names itself. An inner finish may have named others.
         masked: how many faults of lower finishes were dropped, since those who would have raised them were lost.
+        limit: whether the `limit` of this finish or call had passed, so that places which still ran its tasks were reported dead.
     """
 
     lost: Tuple[int, ...] = ()
     masked: int = 0
+    limit: bool = False
 
     def derive(self, exceptions: Sequence[BaseException]) -> Faults:
         """The group that `split` and `subgroup` make of some of the parts."""
@@ -62,12 +67,13 @@ def group(message: str, parts: Iterable[BaseException]) -> Faults:
     return kind(message, parts)
 
 
-def outcome(who: str, lost: Sequence[int], masked: int, thrown: Sequence[BaseException]) -> Faults:
-    """What a finish or a call raises that lost these places, or threw these faults."""
+def outcome(who: str, lost: Sequence[int], masked: int, thrown: Sequence[BaseException], limit: bool = False) -> Faults:
+    """What a finish or a call raises that lost these places, or threw these faults. `limit`: whether its limit had passed."""
     counts = [f"{n} {one if n == 1 else many}" for n, one, many in
               ((len(lost), "place was lost", "places were lost"), (len(thrown), "fault", "faults")) if n]
-    raised = group(f"{who}: {', '.join(counts)}", [*map(DeadPlace, lost), *thrown])
+    raised = group(f"{who}{' past its limit' if limit else ''}: {', '.join(counts)}", [*map(DeadPlace, lost), *thrown])
     raised.lost, raised.masked = tuple(lost), masked
+    raised.limit = limit
     return raised
 
 
@@ -119,3 +125,33 @@ class CoordinatorLost(Closed):
 
 class PlaceGone(Closed):
     """This place was told dead while its process lived. Nothing that it does counts any more."""
+
+
+# What users see of the package's own lines.
+
+FULL = bool(os.environ.get("RX10_FULL_TRACEBACKS"))     # whether tracebacks keep all lines of the package, for those who work on it
+Call = TypeVar("Call", bound=Callable[..., Any])
+
+
+def without_ours(trace: Optional[TracebackType]) -> Optional[TracebackType]:
+    """A traceback without the lines of this package."""
+    kept = []
+    while trace is not None:
+        if FULL or (trace.tb_frame.f_globals.get("__package__") or "").partition(".")[0] != "rx10":
+            kept.append(trace)
+        trace = trace.tb_next
+    shortened = None
+    for entry in reversed(kept):
+        shortened = TracebackType(shortened, entry.tb_frame, entry.tb_lasti, entry.tb_lineno)
+    return shortened
+
+
+def for_users(call: Call) -> Call:
+    """A call that users make: what it raises has one line of this package in its traceback."""
+    @functools.wraps(call)
+    def call_of_rx10(*args: Any, **kwargs: Any) -> Any:
+        try:
+            return call(*args, **kwargs)
+        except BaseException as fault:
+            raise fault.with_traceback(without_ours(fault.__traceback__))
+    return cast(Call, call_of_rx10)

@@ -13,8 +13,10 @@ import traceback
 from types import ModuleType
 from typing import Any, Callable, Optional
 
-from .errors import RemoteError, RemoteTraceback, Unpicklable
+from .errors import RemoteError, RemoteTraceback, Unpicklable, without_ours
 from .wire import PROTOCOL
+
+TRACE = 20_000                  # characters of a traceback that travel
 
 
 @functools.lru_cache(maxsize=None)
@@ -47,7 +49,7 @@ def pack(thing: Any, by_value: bool = False) -> bytes:
         module = cloudpickle()
         if module is None:
             raise
-        return module.dumps(thing, PROTOCOL)
+    return module.dumps(thing, PROTOCOL)
 
 
 def pack_call(fn: Callable, args: tuple, kwargs: dict, by_value: bool) -> bytes:
@@ -72,6 +74,7 @@ def unpack_value(data: bytes) -> Any:
     try:
         good, value = pickle.loads(data)
     except Exception as fault:
+        fault.__traceback__ = without_ours(fault.__traceback__)
         raise Unpicklable(f"the result cannot be unpickled here: {fault!r}") from fault
     if not good:
         raise Unpicklable(value)
@@ -80,12 +83,30 @@ def unpack_value(data: bytes) -> Any:
 
 def pack_fault(fault: BaseException, by_value: bool = False) -> bytes:
     """The pickle of what a task raised, with its name, text and traceback for a place where it cannot be unpickled."""
-    trace = "".join(traceback.format_exception(type(fault), fault, fault.__traceback__))
+    trace = shortened(_trace(fault))
     try:
         text = str(fault)
     except Exception:
         text = "(its text cannot be had)"
     return pickle.dumps((_pack_exception(fault, by_value), type(fault).__name__, text, trace), PROTOCOL)
+
+
+def _trace(fault: BaseException) -> str:
+    """A traceback as text. Where the fault has come from another place that one's stands before it, or alone if it has none here."""
+    trace = without_ours(fault.__traceback__)
+    far = fault.__cause__.args[0] if isinstance(fault.__cause__, RemoteTraceback) else ""
+    if far and trace is None:
+        return far
+    here = "".join(traceback.format_exception(type(fault), fault, trace, chain=not far))
+    return f"{far}\n{here}" if far else here
+
+
+def shortened(text: str) -> str:
+    """A text, or where it is very long its beginning and its end: a fault that passes thousands of calls is told at each."""
+    if len(text) <= TRACE:
+        return text
+    left_out = len(text) - TRACE
+    return f"{text[:TRACE // 2]}\n[{left_out} characters are left out here]\n{text[-(TRACE // 2):]}"
 
 
 def _pack_exception(fault: BaseException, by_value: bool) -> Optional[bytes]:

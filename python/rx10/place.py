@@ -4,15 +4,17 @@ from __future__ import annotations
 
 import contextvars
 import itertools
+import math
 import pickle
 import queue
 import socket
 import threading
+from functools import partial
 from typing import Any, Callable, Dict, Iterable, List, NamedTuple, Optional, Sequence, Tuple, TYPE_CHECKING, Union
 
 from . import pickles, wire
-from .errors import Closed, CoordinatorLost, Faults, Misuse, bare, leaves, outcome
-from .pool import Pool
+from .errors import Closed, CoordinatorLost, Misuse, bare, leaves, outcome
+from .pool import Job, Pool
 from .version import VERSION
 
 if TYPE_CHECKING:
@@ -29,12 +31,26 @@ class Task:
 
     def __init__(self, key: int, place: Place, pooled: bool = True) -> None:
         self.key, self.place, self.pooled = key, place, pooled
+        self._waits = 0                                         # its open finishes, and the call in which it waits
         self.thread: Optional[int] = None
+        self.within: Optional[Task] = None                      # of a main task: the task of another job that opened this one
         self.finishes: List[Finish] = []                        # those that it entered and has not left, the innermost last
         self.answers: queue.SimpleQueue[tuple] = queue.SimpleQueue()
         # How tasks ended that hang under its finishes and calls. It comes before the release, and is shown with it.
         self.values: Dict[int, bytes] = {}                      # by key
         self.faults: Dict[int, Tuple[int, Sequence[bytes]]] = {}    # by number: the key, and what it stands for
+
+    def will_wait(self) -> None:
+        """It is about to begin what it has to wait for. Raises Misuse where no more tasks of its place may wait."""
+        if self.pooled and not self._waits:
+            self.place.pool.may_wait()
+        self._waits += 1
+
+    def has_waited(self) -> None:
+        """That is over."""
+        self._waits -= 1
+        if self.pooled and not self._waits:
+            self.place.pool.waits_no_more()
 
     def note_end(self, key: int, how: str, what: Any) -> None:
         """A task ended: with a value, or with faults by number."""
@@ -52,6 +68,13 @@ class Outcome(NamedTuple):
     thrown: List[BaseException]
     threw: Dict[int, List[int]]             # by key of a task that threw: positions in `thrown`
     limit: bool                             # whether its limit has passed
+
+
+def time_of(limit: Optional[float]) -> Optional[float]:
+    """A limit in seconds, as the hub is told it; None where there is none. Raises ValueError where it is no time."""
+    if limit is not None and not limit > 0:
+        raise ValueError(f"limit={limit!r}: a time of more than no seconds, or None")
+    return None if limit is None or math.isinf(limit) else float(limit)
 
 
 class Guard:
@@ -173,6 +196,7 @@ class Place:
         self.ready.set()
         for task in list(self.tasks.values()):
             task.answers.put(("stop",))
+        self.pool.close()
 
     def abort(self, why: str) -> None:
         """Ends the job. At place 0 it returns when the other places have ended, as far as the engine can end them."""
@@ -194,7 +218,7 @@ class Place:
         if self.closed:
             raise self.closed
         task = current.get(None)
-        if task is None and self.owner == threading.get_ident():
+        if self.main is not None and self.main.thread == threading.get_ident() and self.main.within is task:
             task = self.main
         if task is None or task.place is not self or task.thread != threading.get_ident():
             raise Misuse("this thread runs no task of the job")
@@ -251,28 +275,38 @@ class Place:
                 self._start(key, call, wanted)
         return key
 
-    def at(self, place: int, fn: Callable, args: tuple, kwargs: dict) -> Any:
+    def at(self, place: int, fn: Callable, args: tuple, kwargs: dict, limit: Optional[float]) -> Any:
         """Calls a place, and waits."""
         self.check(place)
+        limit = time_of(limit)
         task = self.task()
         call = pickles.pack_call(fn, args, kwargs, self._by_value)
-        if place == self.number:
-            return self._at_home(call)
+        if place == self.number and limit is None:              # else the hub must know of the call
+            return self._at_home(task, call)
         with self.guard():
+            task.will_wait()
             key = self._new_key()
-            how = self.wait_for_release(task, (), "call", task.key, key, place, call, None)
+            how = self.wait_for_release(task, (), "call", task.key, key, place, call, limit)
+            task.has_waited()
         value = task.values.pop(key, None)
         if value is not None and not how.lost and not how.thrown:
             return pickles.unpack_value(value)
-        raise bare(outcome(f"at({place})", how.lost, how.masked, how.thrown))
+        raise bare(outcome(f"at({place})", how.lost, how.masked, how.thrown, how.limit))
 
-    def _at_home(self, call: bytes) -> Any:
+    def _at_home(self, task: Task, call: bytes) -> Any:
         """The same task goes on, with copies of arguments and result."""
         fn, args, kwargs = pickle.loads(call)
+        raised: Optional[BaseException] = None
+        before = current.set(task)                              # the driver's own thread may have entered another job since
         try:
             value = fn(*args, **kwargs)
-        except Faults as fault:
-            raise outcome(f"at({self.number})", (), 0, leaves(fault)) from fault    # an inner finish's `lost` is not this call's
+        except Exception as fault:
+            raised = bare(outcome(f"at({self.number})", (), 0, leaves(fault)))      # an inner finish's `lost` is not this call's
+            raised = raised.with_traceback(raised.__traceback__ or fault.__traceback__)
+        finally:
+            current.reset(before)
+        if raised is not None:
+            raise raised
         return pickles.unpack_value(pickles.pack_value(value, self._by_value))
 
     def _new_key(self) -> int:
@@ -282,7 +316,12 @@ class Place:
 
     def _start(self, key: int, call: bytes, wanted: bool) -> None:
         self.tasks[key] = task = Task(key, self)
-        self.pool.submit(lambda: contextvars.Context().run(self._run, task, call, wanted))
+        self.pool.submit(Job(lambda: contextvars.Context().run(self._run, task, call, wanted), partial(self._refuse, task)))
+
+    def _refuse(self, task: Task, why: Exception) -> None:
+        """No thread can be had for a task: it ends with a fault, and the place lives on."""
+        fault = RuntimeError(f"place {self.number} has no thread for this task: {why}. {len(self.tasks) - 1} other tasks are there")
+        self._end(task, [pickles.pack_fault(fault, self._by_value)], None)
 
     def _run(self, task: Task, call: bytes, wanted: bool) -> None:
         if self.closed:
@@ -302,6 +341,9 @@ class Place:
                 return
             value = None
             thrown = [pickles.pack_fault(leaf, self._by_value) for leaf in leaves(fault)]
+        self._end(task, thrown, value)
+
+    def _end(self, task: Task, thrown: List[bytes], value: Optional[bytes]) -> None:
         del self.tasks[task.key]
         try:
             self.tell("end", task.key, thrown, value)           # the result and the end are one message

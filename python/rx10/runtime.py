@@ -15,8 +15,8 @@ from typing import Any, Callable, Dict, List, Optional, Sequence, Set, Tuple, TY
 from . import calls, program, wire
 from .calls import Calls, WAIT
 from .engines.base import Engine, Where
-from .errors import Closed, CoordinatorLost, leaves, outcome
-from .place import Place, Task
+from .errors import Closed, CoordinatorLost, for_users, leaves, outcome
+from .place import Place, Task, current
 from .version import VERSION
 
 if TYPE_CHECKING:
@@ -68,6 +68,7 @@ class Runtime(Calls):
 
     # The life of a job.
 
+    @for_users
     def __enter__(self) -> Runtime:
         if self._hub is not None:
             raise Closed("a job is entered once")
@@ -79,7 +80,7 @@ class Runtime(Calls):
         place.number, place.pool.limit, place.owner = 0, self._settings["threads"], threading.get_ident()
         place.end_others, place.await_end = self._end_others, self._await_end
         place.main = place.tasks[0] = self._main = Task(0, place, pooled=False)
-        self._main.thread = place.owner
+        self._main.thread, self._main.within = place.owner, current.get(None)
         try:
             with place.guard():
                 self._start(far_control, far_line)
@@ -111,6 +112,7 @@ class Runtime(Calls):
         self._listener.start()
         threading.Thread(target=self._serve, name="rx10 engine", daemon=True).start()
 
+    @for_users
     def __exit__(self, kind: Any, fault: Optional[BaseException], trace: Any) -> None:
         graceful = False
         try:
@@ -283,6 +285,7 @@ class Runtime(Calls):
         """The host and the port at which places come in; None where they come in otherwise, or the job is over."""
         return self._engine.address
 
+    @for_users
     def where(self, place: int) -> Where:
         """What runs a place: the machine's name and the process's number there, over Dask the worker's address too."""
         self._place.check(place)
@@ -296,8 +299,10 @@ class Runtime(Calls):
         return self._engine.where(tag)._replace(silent=place in self._silent)
 
     def is_of(self, task: Optional[Task]) -> bool:
-        """Whether a task is of this job; where there is none, whether this thread is the job's main task."""
-        return task.place is self._place if task is not None else self._place.owner == threading.get_ident()
+        """Whether a task is of this job, or runs the `with` of this job in this thread; None stands for no task."""
+        if task is self._main.within and self._main.thread == threading.get_ident():
+            return True
+        return task is not None and task.place is self._place
 
 
 def local(places: int, threads: int = 1, **options: Any) -> Runtime:

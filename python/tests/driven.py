@@ -279,8 +279,8 @@ class World:
             self.tell(task, "spawn", child.key, place, None if place == task.place else b"call", child.wanted)
             if place == task.place:
                 self.begin(child)
-        elif may_start and chance < 0.60 and len(self.core.seats) > 1:
-            place = self.rng.choice([it for it in self.core.seats if it != task.place])
+        elif may_start and chance < 0.60:
+            place = self.rng.randrange(len(self.core.seats))        # its own place too: a call with a limit comes here
             scope = task.waits = next(self.scope_ids)
             task.own.append(scope)
             callee = self.start(task, place, self.chain(task))

@@ -74,7 +74,7 @@ def kill(process):
 
 def all_over(runtime):
     """Whether all places but this one have ended."""
-    return all(it.exitcode is not None for it in runtime._engine.processes())
+    return not any(map(is_alive, runtime._engine.processes()))
 
 
 def coordinator_of(runtime):

@@ -10,7 +10,7 @@ import socket
 import sys
 import threading
 import time
-from typing import Dict, Optional
+from typing import Dict, List, Optional
 
 from .. import pickles, place
 from .base import Engine, Job, Where
@@ -40,7 +40,7 @@ class Local(Engine):
             raise RuntimeError("a place imports this main module, so what starts the job must stand under `if __name__ == \"__main__\":`")
         # A forked place would hold the lines of all others open; a fork server would be the parent with which a place ends.
         self._context = multiprocessing.get_context("spawn")
-        self._processes: Dict[int, multiprocessing.process.BaseProcess] = {}
+        self._processes: Dict[int, multiprocessing.process.BaseProcess] = {}    # those whose files are open here
         self._begun: Dict[int, Optional[int]] = {}              # by process: the task that wanted the place
         self._lock, self._stopped = threading.Lock(), False
 
@@ -90,7 +90,7 @@ class Local(Engine):
         with self._lock:
             came = self._job.tags()
             for pid, wanted_by in self._begun.items():
-                if wanted_by == joiner and pid not in came:
+                if wanted_by == joiner and pid not in came and pid in self._processes:
                     self._processes[pid].kill()
 
     def describe(self) -> str:
@@ -102,7 +102,10 @@ class Local(Engine):
 
     def ended(self, tag: int) -> None:
         with self._lock:
-            self._processes[tag].join()
+            process = self._processes.pop(tag, None)            # none where the job is over
+            if process is not None:
+                process.join()
+                process.close()
 
     def stop(self, graceful: bool) -> None:
         with self._lock:
@@ -116,7 +119,9 @@ class Local(Engine):
                 process.join(max(0, until - time.monotonic()))
                 process.kill()
                 process.join()
+                process.close()
+            self._processes.clear()
 
-    def processes(self) -> list:
-        """The processes of the places, ended ones too."""
-        return list(self._processes.values())
+    def processes(self) -> List[int]:
+        """The numbers of the processes that were started, ended ones too."""
+        return list(self._begun)

@@ -339,7 +339,10 @@ class Core:
             del self.tasks[callee.key]
             return
         self._open(task, words[3], limit)
-        if self._born(callee, words):
+        is_born = self._born(callee, words)
+        if is_born and callee.place == task.place:              # it has no way to go
+            self._send(callee.place, ("run", callee.key, call, True))
+        elif is_born:
             self._ask(f"arrive t{callee.number}", partial(self._landed, callee, call))
         self._ask(f"release t{task.number}", partial(self._answered, task))
 

@@ -6,7 +6,7 @@ import sys
 from typing import Iterable, List, Sequence, Tuple
 
 if sys.version_info >= (3, 11):
-    _Group = ExceptionGroup
+    _Group = ExceptionGroup[Exception]
 else:
     class _Group(Exception):
         """As much of ExceptionGroup as rx10 needs."""

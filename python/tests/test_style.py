@@ -8,7 +8,7 @@ import unittest
 
 import alone
 
-TYPED = ["tests/plant.py"]      # of the tests: those that have types
+TYPED = ["tests/plant.py", "tests/reached.py"]        # of the tests: those that have types
 
 
 def found_by(name, *words):

@@ -243,7 +243,7 @@ def addresses():
     seen = []
     with rt:
         assert rt.address == ("127.0.0.1", port)
-        assert rt.where(1) == (socket.gethostname(), process.pid, "") and rt.where(0) == (socket.gethostname(), os.getpid(), "")
+        assert rt.where(1) == (socket.gethostname(), process.pid, "", False) and rt.where(0) == (socket.gethostname(), os.getpid(), "", False)
         for call in (lambda: rt.address, lambda: rt.where(1), rt.places, lambda: rt.kill(1)):
             thread = threading.Thread(target=lambda: seen.append(call()))
             thread.start()

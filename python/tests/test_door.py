@@ -117,7 +117,7 @@ class Knocking(WithDoor):
         knocked = door.knock(*self.address, TOKEN)
         self.engine.add(7)
         sock, _, (serial, where), joiner, key = self.job.wait(1)
-        self.assertEqual((serial, where, joiner), (1, (socket.gethostname(), os.getpid(), ""), 7))
+        self.assertEqual((serial, where, joiner), (1, (socket.gethostname(), os.getpid(), "", False), 7))
         self.assertEqual(knocked.driver, handshake.VERSION)
         there = wire.Seal(key, at_hub=True)
         sock.sendall(there.close(wire.frame(("a", 1))))

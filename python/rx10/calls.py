@@ -2,7 +2,7 @@
 
 from __future__ import annotations
 
-from typing import Any, Callable, Dict, Optional, Tuple
+from typing import Any, Callable, Dict, List, Optional, Tuple, cast
 
 from .errors import Misuse, for_users
 from .finish import Finish
@@ -29,12 +29,12 @@ class Calls:
         return Finish(self._place, progress, limit)
 
     @for_users
-    def spawn(self, place: int, fn: Callable, /, *args: Any, **kwargs: Any) -> None:
+    def spawn(self, place: int, fn: Callable[..., Any], /, *args: Any, **kwargs: Any) -> None:
         """Starts fn(*args, **kwargs) as a task at a place, under the innermost finish around the caller. Its result is dropped."""
         self._place.spawn(place, fn, args, kwargs, False)
 
     @for_users
-    def at(self, place: int, fn: Callable, /, *args: Any, limit: Optional[float] = None, **kwargs: Any) -> Any:
+    def at(self, place: int, fn: Callable[..., Any], /, *args: Any, limit: Optional[float] = None, **kwargs: Any) -> Any:
         """Runs fn(*args, **kwargs) at a place, and returns its value or raises what it raised. `limit`: as of a finish, and not fn's."""
         return self._place.at(place, fn, args, kwargs, limit)
 
@@ -51,7 +51,7 @@ class Calls:
             task.has_waited()
         if place is None:
             raise Misuse(why)
-        return place
+        return int(place)
 
     @for_users
     def kill(self, place: int) -> None:
@@ -80,7 +80,7 @@ class Calls:
         return job, ()                                          # as an argument it arrives as the job of the task that has it then
 
 
-_open: list = []                # the jobs that this process drives, the newest last
+_open: List[Any] = []                # the jobs that this process drives, the newest last
 
 
 def opened(driven: Calls) -> None:
@@ -99,7 +99,7 @@ def job() -> Calls:
     task = current.get(None)
     for driven in reversed(_open):
         if driven.is_of(task):
-            return driven
+            return cast(Calls, driven)
     if task is None:
         raise Misuse("this thread runs no task of a job")
     return Calls(task.place)
@@ -112,13 +112,13 @@ def finish(progress: bool = False, limit: Optional[float] = None) -> Finish:
 
 
 @for_users
-def spawn(place: int, fn: Callable, /, *args: Any, **kwargs: Any) -> None:
+def spawn(place: int, fn: Callable[..., Any], /, *args: Any, **kwargs: Any) -> None:
     """`spawn` of the current task's job."""
     job().spawn(place, fn, *args, **kwargs)
 
 
 @for_users
-def at(place: int, fn: Callable, /, *args: Any, limit: Optional[float] = None, **kwargs: Any) -> Any:
+def at(place: int, fn: Callable[..., Any], /, *args: Any, limit: Optional[float] = None, **kwargs: Any) -> Any:
     """`at` of the current task's job."""
     return job().at(place, fn, *args, limit=limit, **kwargs)
 

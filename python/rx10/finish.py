@@ -62,7 +62,7 @@ class Finish:
         return self
 
     @for_users
-    def spawn(self, place: int, fn: Callable, /, *args: Any, **kwargs: Any) -> Handle:
+    def spawn(self, place: int, fn: Callable[..., Any], /, *args: Any, **kwargs: Any) -> Handle:
         """Starts fn(*args, **kwargs) as a task at a place, and returns its handle at once."""
         task = self._place.task()
         if task is not self._task or task.finishes[-1:] != [self]:

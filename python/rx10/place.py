@@ -35,7 +35,7 @@ class Task:
         self.thread: Optional[int] = None
         self.within: Optional[Task] = None                      # of a main task: the task of another job that opened this one
         self.finishes: List[Finish] = []                        # those that it entered and has not left, the innermost last
-        self.answers: queue.SimpleQueue[tuple] = queue.SimpleQueue()
+        self.answers: queue.SimpleQueue[Tuple[Any, ...]] = queue.SimpleQueue()
         # How tasks ended that hang under its finishes and calls. It comes before the release, and is shown with it.
         self.values: Dict[int, bytes] = {}                      # by key
         self.faults: Dict[int, Tuple[int, Sequence[bytes]]] = {}    # by number: the key, and what it stands for
@@ -229,7 +229,7 @@ class Place:
         if not isinstance(place, int) or not 0 <= place < self.count:
             raise ValueError(f"there is no place {place!r}: {self.count} have joined")
 
-    def wait(self, task: Task, *message: Any) -> tuple:
+    def wait(self, task: Task, *message: Any) -> Tuple[Any, ...]:
         """Sends what makes the task wait, and waits for the answer. Another task may run in its stead meanwhile."""
         self.tell(*message)
         if task.pooled:
@@ -262,7 +262,7 @@ class Place:
             thrown.extend(map(pickles.unpack_fault, blobs))
         return Outcome(lost, masked, thrown, threw, limit)
 
-    def spawn(self, place: int, fn: Callable, args: tuple, kwargs: dict, wanted: bool) -> int:
+    def spawn(self, place: int, fn: Callable[..., Any], args: Tuple[Any, ...], kwargs: Dict[str, Any], wanted: bool) -> int:
         """Starts a task and returns its key."""
         self.check(place)
         task = self.task()
@@ -275,7 +275,7 @@ class Place:
                 self._start(key, call, wanted)
         return key
 
-    def at(self, place: int, fn: Callable, args: tuple, kwargs: dict, limit: Optional[float]) -> Any:
+    def at(self, place: int, fn: Callable[..., Any], args: Tuple[Any, ...], kwargs: Dict[str, Any], limit: Optional[float]) -> Any:
         """Calls a place, and waits."""
         self.check(place)
         limit = time_of(limit)

@@ -1,6 +1,7 @@
 """Each situation of task_situations.py ends as it should, and leaves no process behind."""
 
 import concurrent.futures
+import sys
 import unittest
 
 import alone
@@ -9,8 +10,12 @@ from task_situations import SITUATIONS
 AT_A_TIME = 3                   # most of their time they wait
 
 
-def run(name):
-    return alone.run([*alone.BARE, "-m", "task_situations", name])
+OTHERS = {minor: alone.python_of(minor) for minor in range(9, 14) if minor != sys.version_info[1]}
+OF_EACH = ["groups", "lines_of_ours_in_a_traceback"]     # what is not the same in each Python: groups and tracebacks
+
+
+def run(name, python=sys.executable):
+    return alone.run([python, "-S", "-m", "task_situations", name])
 
 
 class TaskSituations(unittest.TestCase):
@@ -38,3 +43,20 @@ def add(name):
 
 for each in SITUATIONS:
     add(each)
+
+
+class OtherPythons(unittest.TestCase):
+    """Groups of faults and tracebacks, in each Python from 3.9 to 3.13 that is here."""
+
+
+def add_python(minor, python):
+    @unittest.skipUnless(python, f"Python 3.{minor} is not here")
+    def test(self):
+        for name in OF_EACH:
+            with self.subTest(name):
+                run(name, python).check(self)
+    setattr(OtherPythons, f"test_3_{minor:02}", test)
+
+
+for each in OTHERS.items():
+    add_python(*each)

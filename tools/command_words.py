@@ -29,7 +29,7 @@ OWN_OPTIONS = {"step": ["--prints"], "live": ["--prints"], "gen": ["--script", "
 FLAGS = ("--prints", "--why")
 FILES = ("step", "live", "check", "verify", "span")
 PAIRS = ("verify", "span")
-OF_LAUNCHER = ("draw", "laws", "sweep", "explain", "help", "build", "test", "coordinator", "install", "package")
+OF_LAUNCHER = ("show", "draw", "laws", "sweep", "explain", "help", "build", "test", "coordinator", "install", "package")
 
 
 def value_rule(option):

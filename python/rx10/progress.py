@@ -23,7 +23,7 @@ class ProgressLine:
     def __init__(self) -> None:
         self._width = 0
 
-    def show(self, tally: Tally, silent: Sequence[int]) -> None:
+    def show(self, tally: Tally, silent: Sequence[int] = ()) -> None:
         """Writes the line anew."""
         text = text_of(tally, silent)
         sys.stderr.write("\r" + text.ljust(self._width))

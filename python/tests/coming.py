@@ -1,6 +1,7 @@
 """What a user sees where places do not come, or come otherwise than they should, each situation in a process of its own.   coming.py NAME"""
 
 import contextlib
+import logging
 import os
 import secrets
 import signal
@@ -243,7 +244,7 @@ def addresses():
     seen = []
     with rt:
         assert rt.address == ("127.0.0.1", port)
-        assert rt.where(1) == (socket.gethostname(), process.pid, "") and rt.where(0) == (socket.gethostname(), os.getpid(), "")
+        assert rt.where(1) == (socket.gethostname(), process.pid, "", False) and rt.where(0) == (socket.gethostname(), os.getpid(), "", False)
         for call in (lambda: rt.address, lambda: rt.where(1), rt.places, lambda: rt.kill(1)):
             thread = threading.Thread(target=lambda: seen.append(call()))
             thread.start()
@@ -380,6 +381,10 @@ CHANGES = {
 
 def between(change, down):
     """The driver names the place dead, the place says what happened, and nothing that was put in is unpickled."""
+    said = []
+    handler = logging.Handler()
+    handler.emit = lambda record: said.append(record.getMessage())
+    logging.getLogger("rx10").addHandler(handler)
     rt = rx10.launched(places=2)
     process = place(Between(rt.address, CHANGES[change], down).address, "-v")
     with rt:
@@ -391,6 +396,7 @@ def between(change, down):
     status, text = ended(process)
     assert not os.path.exists(os.path.join(os.environ["FOLDER"], "bang"))
     assert status == (10 if down else 9), (status, text)
+    assert said == ([] if down else ["place 1 is ended: somebody changed what travels between it and the driver"]), said
 
 
 for each in CHANGES:

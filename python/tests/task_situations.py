@@ -15,6 +15,7 @@ from situations import kill, kind_of_fault, nap, raises, same, throw, wait_until
 
 SITUATIONS = {}                                     # by name
 SOON = 4                                            # seconds: a limit before which a busy machine has done what takes a moment
+STUCK = 60                                          # seconds that a task takes which a limit ends long before
 
 
 def situation(fn):
@@ -243,6 +244,145 @@ def in_a_thread(fn, *args):
     return seen[0]
 
 
+# How many run at a time.
+
+def meet(count, most):
+    """Notes how many of these tasks run at a time, and waits until as many do as may, or all have come."""
+    store, lock = rx10.store(), LOCK
+    with lock:
+        store["now"] = store.get("now", 0) + 1
+        store["came"] = store.get("came", 0) + 1
+        store["most"] = max(store["now"], store.get("most", 0))
+    wait_until(lambda: store["most"] >= most or store["came"] == count)
+    with lock:
+        store["now"] -= 1
+    return store["most"]
+
+
+LOCK = threading.Lock()
+
+
+@situation
+def threads_at_a_time():
+    for threads in (1, 2, 3):
+        with rx10.local(places=2, threads=threads) as rt:
+            for place in rt.places():
+                with rt.finish() as f:
+                    tasks = [f.spawn(place, meet, 8, threads) for _ in range(8)]
+                assert max(it.result() for it in tasks) == threads, (threads, place, [it.result() for it in tasks])
+    for bad in (0, -1):
+        with raises(ValueError, text="runs one task at a time at least"):
+            rx10.local(places=2, threads=bad)
+        with raises(ValueError, text="one place at least"):
+            rx10.local(places=bad)
+
+
+@situation
+def a_task_that_waits_counts_for_none():
+    """With one thread a place works for a task that waits there, and the one that waited goes on before those that are new."""
+    with rx10.local(places=2) as rt:
+        with rt.finish() as f:
+            first, others = f.spawn(1, notes_and_waits), [f.spawn(1, note, name) for name in "bcd"]
+        del first, others
+        assert rt.at(1, notes)[:2] == ["begins", "b"] and set(rt.at(1, notes)) == {"begins", "b", "c", "d", "goes on"}, rt.at(1, notes)
+
+
+def note(name):
+    rx10.store().setdefault("notes", []).append(name)
+
+
+def notes():
+    return rx10.store()["notes"]
+
+
+def notes_and_waits():
+    note("begins")
+    rx10.at(0, same, 1)
+    note("goes on")
+
+
+# Jobs, finishes and handles in the wrong hands.
+
+@situation
+def a_job_is_entered_once():
+    rt = rx10.local(places=2)
+    with rt:
+        with raises(rx10.Closed, text="a job is entered once"):
+            rt.__enter__()
+        assert rt.at(1, same, 1) == 1
+    with raises(rx10.Closed, text="a job is entered once"):
+        rt.__enter__()
+
+
+FINISHES = []
+
+
+def spawn_of_it():
+    FINISHES[0].spawn(0, same, 1)
+
+
+def leave_it():
+    FINISHES[0].__exit__(None, None, None)
+
+
+@situation
+def a_finish_in_another_task():
+    rt = rx10.local(places=2)
+    with raises(rx10.Closed, text="a finish was left out of turn"):
+        with rt:
+            with rt.finish() as f:
+                FINISHES.append(f)
+                with rt.finish() as g:
+                    task = g.spawn(0, kind_of_fault, spawn_of_it)
+                assert task.result() is rx10.Misuse
+                assert f.spawn(1, same, 2).place == 1
+                with raises(rx10.Closed):
+                    rt.at(0, same, 1)
+                    rt.spawn(0, leave_it)
+                    wait_until(lambda: rt._place.closed)
+                    rt.at(1, same, 1)
+
+
+@situation
+def a_task_that_ends_inside_a_finish():
+    with raises(rx10.Closed, text="a task ended inside a finish"):
+        with rx10.local(places=2) as rt:
+            rt.at(1, leaves_a_finish_open)
+
+
+def leaves_a_finish_open():
+    rx10.finish().__enter__()
+
+
+@situation
+def handles():
+    with rx10.local(places=4) as rt:
+        kill(rt.where(3))
+        wait_until(lambda: 3 not in rt.places())
+        with raises(rx10.Faults, 3, KeyError):
+            with rt.finish() as f:
+                well, none, lost = f.spawn(1, same, [1]), f.spawn(2, same, None), f.spawn(3, same, 1)
+                ill, names_a_loss = f.spawn(1, throw, KeyError, "k"), f.spawn(2, names, rx10.DeadPlaces)
+                for call in (well.result, lambda: well.lost, ill.result, lambda: lost.lost):
+                    assert kind_of_fault(call) is rx10.Misuse
+        assert [it.place for it in (well, none, lost, ill)] == [1, 2, 3, 1]
+        assert [it.lost for it in (well, none, lost, ill, names_a_loss)] == [False, False, True, False, False]
+        assert well.result() == [1] and well.result() is not well.result() and none.result() is None
+        for _ in range(2):
+            with raises(KeyError, text="k"):
+                ill.result()
+            with raises(rx10.DeadPlace, text="work was lost at place 3"):
+                lost.result()
+        assert names_a_loss.result() == (3,)
+
+
+def names(kind):
+    try:
+        rx10.at(3, same, 1)
+    except kind as fault:
+        return fault.places
+
+
 # Limits of time.
 
 @contextlib.contextmanager
@@ -262,7 +402,7 @@ def limit_of_a_finish():
     with rx10.local(places=7) as rt:
         with past_the_limit(1, 2):
             with rt.finish(limit=SOON) as f:
-                tasks = [f.spawn(1, nap, LIMIT), f.spawn(2, nap, LIMIT), f.spawn(3, same, 5)]
+                tasks = [f.spawn(1, nap, STUCK), f.spawn(2, nap, STUCK), f.spawn(3, same, 5)]
                 rt.at(3, same, 0)                   # so that one has ended
         assert [it.lost for it in tasks] == [True, True, False] and tasks[2].result() == 5
         assert rt.places() == (0, 3, 4, 5, 6) and not is_alive(rt.where(1).process), rt.places()
@@ -271,7 +411,7 @@ def limit_of_a_finish():
         assert task.result() == 6
         with past_the_limit(3):
             with rt.finish(limit=0.3) as f:
-                f.spawn(3, nap, LIMIT)
+                f.spawn(3, nap, STUCK)
                 wait_until(lambda: 3 not in rt.places())            # it counts from the beginning, the body is part of it
         for place, far in (0, 4), (5, 6):           # the limit is that of the lower finish, and so is the loss
             assert told(rt.at, place, finish_with_a_limit, far) == ("DeadPlaces", ["DeadPlace"], (), 0, False)
@@ -281,7 +421,7 @@ def limit_of_a_finish():
 def finish_with_a_limit(place):
     try:
         with rx10.finish(limit=0.3) as f:
-            f.spawn(place, nap, LIMIT)
+            f.spawn(place, nap, STUCK)
     except rx10.DeadPlaces as fault:
         assert fault.limit is True and fault.lost == (place,)
         raise
@@ -292,7 +432,7 @@ def limit_of_a_finish_that_is_not_reached():
     with rx10.local(places=3) as rt:
         try:
             with rt.finish(limit=LIMIT) as f:
-                f.spawn(1, nap, LIMIT)
+                f.spawn(1, nap, STUCK)
                 kill(rt.where(1))
         except rx10.DeadPlaces as fault:
             assert fault.places == (1,) and fault.limit is False and "limit" not in str(fault)
@@ -309,15 +449,15 @@ def limit_of_a_call():
         with raises(KeyError):
             rt.at(1, throw, KeyError, limit=LIMIT)
         with past_the_limit(1):
-            rt.at(1, nap, LIMIT, limit=0.3)
+            rt.at(1, nap, STUCK, limit=0.3)
         with past_the_limit(2):
-            rx10.at(2, nap, LIMIT, limit=0.3)
+            rx10.at(2, nap, STUCK, limit=0.3)
         assert rt.at(3, naps_at, 4) == ("DeadPlaces", ["DeadPlace"], (4,), 0, True)
         assert rt.places() == (0, 3)
 
 
 def naps_at(place):
-    return told(rx10.at, place, nap, LIMIT, limit=0.3)
+    return told(rx10.at, place, nap, STUCK, limit=0.3)
 
 
 @situation
@@ -331,7 +471,7 @@ def limit_at_ones_own_place():
             task = f.spawn(0, nap, 0.5)
         assert task.result() == 0.5
         with past_the_limit(1, lost=()):
-            rt.at(0, rx10.at, 1, nap, LIMIT, limit=0.3)             # what it calls can be
+            rt.at(0, rx10.at, 1, nap, STUCK, limit=0.3)             # what it calls can be
         with raises(rx10.DeadPlaces, 2):
             rt.at(2, naps_at_home)                                  # and so can the place of the call itself
         assert rt.places() == (0, 3)
@@ -342,7 +482,7 @@ def rx10_at_home(thing):
 
 
 def naps_at_home():
-    rx10.at(rx10.here(), nap, LIMIT, limit=0.3)
+    rx10.at(rx10.here(), nap, STUCK, limit=0.3)
 
 
 @situation

@@ -4,7 +4,7 @@ _rx10() {
     local now=${COMP_WORDS[COMP_CWORD]} before=${COMP_WORDS[COMP_CWORD - 1]} command=${COMP_WORDS[1]} words=
     COMPREPLY=()
     if [ "$COMP_CWORD" -eq 1 ]; then
-        mapfile -t COMPREPLY < <(compgen -W 'step live check gen verify span draw laws sweep explain build test coordinator install package help --help --version' -- "$now")
+        mapfile -t COMPREPLY < <(compgen -W 'step live check gen verify span show draw laws sweep explain build test coordinator install package help --help --version' -- "$now")
         return
     fi
     case $before in
@@ -26,6 +26,7 @@ _rx10() {
         gen) words='--size --places --heap --kill --seed --script --trace --help' ;;
         verify) words='--why --help' ;;
         check | span | laws) words='--help' ;;
+        show) words='--places --heap --kill --join --pick --seed -o --no-open --help' ;;
         draw) words='-o --script --span --columns --width --title --svg --perfetto --help' ;;
         sweep) words='--places --heap --kill --join --pick --seed --pairs --seeds --no-deaths --any-order --require --max --jobs --expect --help' ;;
         explain | build | test) words='--help' ;;
@@ -35,7 +36,7 @@ _rx10() {
             mapfile -t COMPREPLY < <(compgen -d -- "$now")
             return
             ;;
-        help) words='step live check gen verify span draw laws sweep explain build test coordinator install package' ;;
+        help) words='step live check gen verify span show draw laws sweep explain build test coordinator install package' ;;
         *) return ;;
     esac
     case $now in

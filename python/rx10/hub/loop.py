@@ -26,6 +26,7 @@ from typing import Any, Callable, Deque, Dict, List, NamedTuple, Optional, Set, 
 
 from ..errors import Closed, CoordinatorLost
 from ..wire import Frames, frame, is_silent
+from .books import Message
 from .coordinator import Coordinator, Pipes, Program
 from .core import Core, Options
 from .peer import Peer, Process
@@ -190,6 +191,7 @@ class Hub:
         where the job has a limit for that."""
         if peer.sock is None or peer.is_ended:
             return
+        assert peer.place is not None
         silence = 0.0 if peer.heard >= peer.asked else self.now - peer.asked
         limit = self.settings.silent
         if limit is not None and silence >= limit:
@@ -210,6 +212,7 @@ class Hub:
         """Something came from a place, or it reads."""
         peer.heard = self.now
         if peer.is_silent:
+            assert peer.place is not None
             peer.is_silent = False
             self.core.note_sign(peer.place, False)
             self.to_driver("sign", peer.place)
@@ -236,6 +239,7 @@ class Hub:
         sock = self.system.line(self.files.popleft())
         second = self.files.popleft() if files > 1 else None
         if key is not None:
+            assert second is not None
             peer = Peer(sock, None, tag, joiner, key, self.system.line(second))
         else:
             peer = Peer(sock, None if second is None else self.system.process(second), tag, joiner)
@@ -363,7 +367,7 @@ class Hub:
     def ask(self, line: str) -> None:
         self.coordinator.ask(line)
 
-    def send(self, place: int, message: tuple) -> None:
+    def send(self, place: int, message: Message) -> None:
         peer = self.peers[place]
         peer.put(message)
         self.unsent[peer] = None

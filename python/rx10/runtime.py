@@ -248,7 +248,8 @@ class Runtime(Calls):
 
     def _on_sign(self, place: Optional[int]) -> None:
         import logging
-        self._silent.discard(place)
+        if place is not None:
+            self._silent.discard(place)
         logging.getLogger("rx10").info("%s again", "the coordinator answers" if place is None else f"place {place} gives signs of life")
 
     def _on_forged(self, place: Optional[int]) -> None:

@@ -19,7 +19,7 @@ from rx10.hub.loop import Hub, Settings
 from rx10.wire import Frames, frame
 
 READ, WRITE = selectors.EVENT_READ, selectors.EVENT_WRITE
-STUCK = 60                      # timers one after another with nothing else: the job has come to rest
+STUCK = 100                     # sleeps one after another in which nothing happens but signs of life: the job has come to rest
 
 
 class Stream:
@@ -327,12 +327,17 @@ class LoopWorld(World):
             self.late.add(self.tasks[scope.opener.key].own[scope.opener.scopes.index(scope)])
         self.pass_limit_of(number)
 
+    def step(self, task):
+        self.resting = 0
+        super().step(task)
+
     def read(self, place, kind, *rest):
         if kind == "ping":
             self.line_of[place].asked = None
             self.say(place, "pong")
-        elif kind == "ready":
-            self.is_ready = True
+            return
+        self.resting = 0
+        self.is_ready = self.is_ready or kind == "ready"
         super().read(place, kind, *rest)
 
     # The scheduler.
@@ -346,7 +351,6 @@ class LoopWorld(World):
                     break
             ready = self.selector.ready()
             if ready:
-                self.resting = 0
                 return ready if self.how == "whole" else self.rng.sample(ready, self.rng.randrange(1, len(ready) + 1))
             if timeout == 0:
                 return []
@@ -448,6 +452,7 @@ class LoopWorld(World):
         line, end, _ = bytes(requests.arrived).partition(b"\n")
         if end:
             requests.take(len(line) + 1)
+            self.resting = 0
             for reply in self.replies_to(line.decode()):
                 self.story.append("    " + reply)
                 self.pipes.replies.under_way += reply.encode() + b"\n"

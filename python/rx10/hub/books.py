@@ -3,7 +3,9 @@
 from __future__ import annotations
 
 import collections
-from typing import Deque, Dict, Iterable, List, NamedTuple, Optional, Set
+from typing import Any, Deque, Dict, Iterable, List, NamedTuple, Optional, Set, Tuple
+
+Message = Tuple[Any, ...]       # its kind, and what goes with it
 
 
 class Task:
@@ -64,7 +66,7 @@ class Seat:
     __slots__ = ("inbox", "tasks", "dead")
 
     def __init__(self, tasks: Iterable[int] = ()) -> None:
-        self.inbox: Deque[tuple] = collections.deque()          # what it sent and nobody has taken yet
+        self.inbox: Deque[Message] = collections.deque()          # what it sent and nobody has taken yet
         self.tasks: Set[int] = set(tasks)                       # the keys of its tasks
         self.dead = False                                       # from the moment at which its death is asked
 

@@ -19,7 +19,7 @@ from functools import partial
 from typing import Any, Callable, Deque, Dict, Iterable, List, NamedTuple, Optional, Protocol, Sequence, Set, Tuple
 
 from ..errors import Closed
-from .books import Release, Scope, Seat, Task, read_greeting, read_release
+from .books import Message, Release, Scope, Seat, Task, read_greeting, read_release
 
 MAIN = 0                        # the key of the main task, and the number of its place
 MOST_FAULTS = 10**9             # faults are numbers below this one
@@ -34,7 +34,7 @@ class Outside(Protocol):
     def ask(self, line: str) -> None:
         """Sends a request to the coordinator. Its replies come to `Core.reply`, in the order of the requests."""
 
-    def send(self, place: int, message: tuple) -> None:
+    def send(self, place: int, message: Message) -> None:
         """Sends a message to a place that lives."""
 
     def welcome(self, newcomer: Any, place: int) -> bool:
@@ -181,7 +181,7 @@ class Core:
         for place in living:
             self._send(place, ("places", living, len(self.seats)))
 
-    def receive(self, place: int, messages: Iterable[tuple]) -> None:
+    def receive(self, place: int, messages: Iterable[Message]) -> None:
         """Keeps what a place has sent until it is taken."""
         seat = self.seats[place]
         if not seat.dead:
@@ -240,7 +240,7 @@ class Core:
             self._awake.discard(place)
         return taken
 
-    def _take_first(self, place: int, inbox: Deque[tuple]) -> bool:
+    def _take_first(self, place: int, inbox: Deque[Message]) -> bool:
         if not inbox:
             return False
         kind, *rest = inbox[0]
@@ -474,11 +474,11 @@ class Core:
 
     # What places are told.
 
-    def _send(self, place: int, message: tuple) -> None:
+    def _send(self, place: int, message: Message) -> None:
         if not self.seats[place].dead:
             self.outside.send(place, message)
 
-    def _deliver(self, key: int, message: tuple) -> None:
+    def _deliver(self, key: int, message: Message) -> None:
         """To the place of a task, where that is still there."""
         task = self.tasks.get(key)
         if task is not None:

@@ -8,8 +8,8 @@ One rule: **the loop sleeps only if nothing can be taken, nothing is unsent, not
 - Nothing is unread: the selector has all lines, the ends of processes, the driver's control, and the coordinator's replies. What is left
   unread in one of them wakes it at once.
 
-Timers go by the loop's own time, `Hub.now`. It stands while the hub does not look: a hub, or a whole machine, that was stopped for a minute
-does not take this for the silence of others. A turn reads before it does what its timers want.
+Timers go by the loop's own time, `Hub.now`. It stands while the hub does not look: where the hub, or the whole machine, was stopped for a
+minute, it goes on by two steps at most, and this is not taken for the silence of others. A turn reads before it does what its timers want.
 """
 
 from __future__ import annotations
@@ -26,6 +26,7 @@ from typing import Any, Callable, Deque, Dict, List, NamedTuple, Optional, Set, 
 
 from ..errors import Closed, CoordinatorLost
 from ..wire import Frames, frame, is_silent
+from .books import Message
 from .coordinator import Coordinator, Pipes, Program
 from .core import Core, Options
 from .peer import Peer, Process
@@ -35,7 +36,7 @@ PROGRESS = 0.2                  # seconds between two tellings of how far a watc
 ASK = 5.0                       # seconds between two questions for a sign of life
 SILENT = 15.0                   # seconds without one after which the driver is told
 LARGE = 1 << 25                 # bytes that have waited for a place, after which the memory is given back
-LATE = 0.5                      # seconds that a turn may take longer than it slept: what is above was no time in which the hub looked
+STEP = 1.0                      # seconds that a turn sleeps at most, and that it may take besides: what is above was no time in which the hub looked
 NOT_STARTED = ("a place ended while it started. If it says above that the main module has no guard, put what starts the job under "
                "`if __name__ == \"__main__\":`")
 
@@ -106,7 +107,9 @@ class Hub:
         self.coming: Set[Peer] = set()                          # those without a number
         self.unsent: Dict[Peer, None] = {}                      # those for which something was kept in this turn, or that have room now
         self.timers, self.alarms = Timers(), {}                 # type: Tuple[Timers, Dict[int, Timer]]
-        self.ask_every = ASK if settings.silent is None else min(ASK, settings.silent / 2)
+        self.ask_every, self.step = ASK, STEP
+        if settings.silent is not None:
+            self.ask_every, self.step = min(ASK, settings.silent / 2), min(STEP, settings.silent / 4)
         self.greeted = self.tells_progress = self.coordinator_is_silent = False
         self.record: Optional[TextIO] = open(settings.record, "w", encoding="ascii") if settings.record else None
         self.control_frames = Frames()
@@ -150,9 +153,9 @@ class Hub:
     def tick(self) -> None:
         """Time goes on, and how long this round may sleep is known."""
         clock = self.system.clock()
-        self.now += min(clock - self.clocked, self.slept + LATE)
+        self.now += min(clock - self.clocked, self.slept + self.step)
         self.clocked = clock
-        self.slept = 0.0 if self.core.can_take else self.timers.sleep(self.now)
+        self.slept = 0.0 if self.core.can_take else min(self.step, self.timers.sleep(self.now))
 
     def read_replies(self) -> None:
         for line in self.coordinator.read():
@@ -188,6 +191,7 @@ class Hub:
         where the job has a limit for that."""
         if peer.sock is None or peer.is_ended:
             return
+        assert peer.place is not None
         silence = 0.0 if peer.heard >= peer.asked else self.now - peer.asked
         limit = self.settings.silent
         if limit is not None and silence >= limit:
@@ -208,6 +212,7 @@ class Hub:
         """Something came from a place, or it reads."""
         peer.heard = self.now
         if peer.is_silent:
+            assert peer.place is not None
             peer.is_silent = False
             self.core.note_sign(peer.place, False)
             self.to_driver("sign", peer.place)
@@ -234,6 +239,7 @@ class Hub:
         sock = self.system.line(self.files.popleft())
         second = self.files.popleft() if files > 1 else None
         if key is not None:
+            assert second is not None
             peer = Peer(sock, None, tag, joiner, key, self.system.line(second))
         else:
             peer = Peer(sock, None if second is None else self.system.process(second), tag, joiner)
@@ -361,7 +367,7 @@ class Hub:
     def ask(self, line: str) -> None:
         self.coordinator.ask(line)
 
-    def send(self, place: int, message: tuple) -> None:
+    def send(self, place: int, message: Message) -> None:
         peer = self.peers[place]
         peer.put(message)
         self.unsent[peer] = None

@@ -9,6 +9,7 @@ import socket
 from typing import Any, Deque, List, Optional
 
 from ..wire import Forged, Frames, Seal, frame, give_up_soon
+from .books import Message
 
 RECEIVE = 1 << 18               # bytes that are read at once
 GATHER = 1 << 16                # small messages are sent together up to this many bytes
@@ -59,7 +60,7 @@ class Peer:
         self._out: Deque[memoryview] = collections.deque()      # what waits, some of it gathered
         self._sizes: Deque[int] = collections.deque()           # by message how much of it waits
 
-    def put(self, message: tuple) -> None:
+    def put(self, message: Message) -> None:
         """Keeps a message until it can be sent. Drops it where the place has been ended."""
         if self.is_ended or self.sock is None:
             return
@@ -75,7 +76,7 @@ class Peer:
         """Whether more than so many bytes wait, one message of any size apart."""
         return self.unsent > most and len(self._sizes) > 1
 
-    def read(self) -> Optional[List[tuple]]:
+    def read(self) -> Optional[List[Message]]:
         """The messages that have come. None at the end of the line, and BlockingIOError where nothing has come."""
         if self.sock is None:
             return None

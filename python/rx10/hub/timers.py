@@ -7,7 +7,6 @@ import itertools
 from typing import Callable, List, Optional
 
 FEW = 64                        # timers that nobody wants any more and that may stay in the heap
-LONGEST = 3600.0                # seconds of one sleep: the system refuses far longer ones
 
 
 class Timer:
@@ -52,8 +51,8 @@ class Timers:
         return len(self._heap)
 
     def sleep(self, now: float) -> float:
-        """How many seconds the loop may sleep."""
-        return min(LONGEST, max(0.0, self._heap[0].moment - now)) if self._heap else LONGEST
+        """How many seconds the loop may sleep; infinitely many where there is no timer."""
+        return max(0.0, self._heap[0].moment - now) if self._heap else float("inf")
 
     def run(self, now: float) -> None:
         """Does what is due."""

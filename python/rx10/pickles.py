@@ -100,7 +100,7 @@ def pack_fault(fault: BaseException, by_value: bool = False) -> bytes:
 def _trace(fault: BaseException) -> str:
     """A traceback as text. Where the fault has come from another place that one's stands before it, or alone if it has none here."""
     trace = without_ours(fault.__traceback__)
-    far = fault.__cause__.args[0] if isinstance(fault.__cause__, RemoteTraceback) else ""
+    far = str(fault.__cause__.args[0]) if isinstance(fault.__cause__, RemoteTraceback) else ""
     if far and trace is None:
         return far
     here = "".join(traceback.format_exception(type(fault), fault, trace, chain=not far))

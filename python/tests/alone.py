@@ -9,6 +9,8 @@ import signal
 import subprocess
 import sys
 import time
+import unittest
+from typing import Dict, Iterable, List, Optional, Sequence, Union
 
 HERE = pathlib.Path(__file__).resolve().parent
 PYTHON = HERE.parent                            # the folder with the package
@@ -22,16 +24,16 @@ BARE = [sys.executable, "-S"]
 class Result:
     """What came of a run."""
 
-    def __init__(self, status, output, left):
+    def __init__(self, status: Optional[int], output: str, left: List[str]) -> None:
         self.status, self.output, self.left = status, output, left
 
-    def check(self, test, status=0):
+    def check(self, test: unittest.TestCase, status: int = 0) -> None:
         """Fails the test where the run ended otherwise, or left a process behind."""
         test.assertEqual(self.status, status, self.output[-4000:])
         test.assertEqual(self.left, [], "processes were left behind")
 
 
-def run(words, limit=LIMIT, env=None, stdin=None):
+def run(words: Sequence[str], limit: float = LIMIT, env: Optional[Dict[str, str]] = None, stdin: Optional[str] = None) -> Result:
     """Runs a command. Its status is None where it took too long."""
     mark = os.urandom(16).hex()
     env = {**os.environ, "PYTHONPATH": f"{PYTHON}{os.pathsep}{HERE}", **(env or {}), MARK: mark}
@@ -54,7 +56,7 @@ def run(words, limit=LIMIT, env=None, stdin=None):
     return Result(status, output, names)
 
 
-def marked(mark, name=MARK):
+def marked(mark: str, name: str = MARK) -> List[int]:
     """The processes with this mark in their environment, under this name."""
     wanted = f"{name}={mark}".encode()
     found = []
@@ -68,7 +70,7 @@ def marked(mark, name=MARK):
     return found
 
 
-def is_alive(pid):
+def is_alive(pid: Union[int, str]) -> bool:
     """Whether a process has not ended."""
     try:
         with open(f"/proc/{pid}/stat", encoding="utf-8", errors="replace") as file:
@@ -77,7 +79,7 @@ def is_alive(pid):
         return False
 
 
-def name_of(pid):
+def name_of(pid: int) -> str:
     """A process's words."""
     try:
         with open(f"/proc/{pid}/cmdline", "rb") as file:
@@ -86,7 +88,7 @@ def name_of(pid):
         return str(pid)
 
 
-def end(pids, number=signal.SIGKILL):
+def end(pids: Iterable[int], number: int = signal.SIGKILL) -> None:
     """Kills processes that a test started."""
     for pid in pids:
         try:
@@ -95,20 +97,20 @@ def end(pids, number=signal.SIGKILL):
             pass
 
 
-def python_with(module):
+def python_with(module: str) -> Optional[str]:
     """A Python that can import a module: this one, or that of the system; None where there is none."""
     code = f"import importlib.util, sys; sys.exit(importlib.util.find_spec({module!r}) is None)"
     return next((python for python in (sys.executable, "/usr/bin/python3") if runs(python, code)), None)
 
 
-def python_of(minor):
+def python_of(minor: int) -> Optional[str]:
     """A Python 3 of this minor version: on the path, or of pyenv; None where there is none."""
     found = sorted(pathlib.Path.home().glob(f".pyenv/versions/3.{minor}.*/bin/python3"))
     mine = [sys.executable] if sys.version_info[1] == minor else []
-    return next((str(python) for python in [*mine, *found, f"python3.{minor}"] if runs(python, "")), None)
+    return next((python for python in [*mine, *map(str, found), f"python3.{minor}"] if runs(python, "")), None)
 
 
-def runs(python, code):
+def runs(python: str, code: str) -> bool:
     """Whether a Python is here and runs this."""
     try:
         return subprocess.run([python, "-c", code], stdout=subprocess.DEVNULL, stderr=subprocess.DEVNULL, check=False).returncode == 0

@@ -307,7 +307,7 @@ class Pictures(unittest.TestCase):
                 done = call("draw", EXAMPLES / "hello.trace", option, path, "-o", "-")
                 self.assertEqual((done.returncode, done.stdout, done.stderr), (1, "", "rx10: %s\n" % said % path))
                 done = call("draw", EXAMPLES / "hello.trace", option, "/none", "-o", "-")
-                self.assertEqual((done.returncode, done.stdout, done.stderr), (125, "", "rx10: /none: No such file or directory\n"))
+                self.assertEqual((done.returncode, done.stdout, done.stderr), (2, "", "rx10: there is no file `/none` here\n"))
 
     def test_a_chain_is_marked_in_each_picture(self):
         """The dots of the chain stand at the entries that tell its statements, also those that an entry tells beside its own."""
@@ -369,7 +369,7 @@ class Pictures(unittest.TestCase):
                             (trace.read_bytes().replace(b"3 arrive", b"4 arrive"), "standard input is no trace, from line 9 on: this is no line of a trace"),
                             (trace.read_bytes().replace(b"kills\n", b""), "standard input is no trace, from line 3 on: `kills` must come")):
             done = call("draw", input=given)
-            self.assertEqual((done.returncode, done.stdout, done.stderr), (1, "", "rx10: %s\n" % said))
+            self.assertEqual((done.returncode, done.stdout, done.stderr), (10, "", "rx10: %s\n" % said))
 
     def test_standard_input(self):
         given = (EXAMPLES / "hello.trace").read_bytes()

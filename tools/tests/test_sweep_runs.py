@@ -261,7 +261,7 @@ class Ends(unittest.TestCase):
                 (["--kill", "0@3"], 2, "place 0 never dies"),
                 (["--seeds", "0"], 2, "--seeds takes a number from 1"), (["--jobs", "0"], 2, "--jobs takes a number from 1"),
                 (["--max", "-1"], 2, "--max takes a number from 1"), (["--seeds", "two"], 2, "`--seeds` takes a number, and `two` is none"),
-                (["--seeds", "2", "--pick", "0"], 2, "--seeds excludes --seed and --pick"), (["--expect", "/none"], 125, "can't read /none: No such file"),
+                (["--seeds", "2", "--pick", "0"], 2, "--seeds excludes --seed and --pick"), (["--expect", "/none"], 2, "there is no file `/none` here"),
                 (["--require", "status=0 status=1"], 2, "--require: `status` stands twice"), (["--require", "prints=x"], 2, "`prints=` takes whole numbers"),
                 (["--require", "masked=1,2"], 2, "`masked=` takes one number"), (["--require", "status=2"], 2, "`status=` takes 0 or 1"),
                 (["--require", "status=0,lost=-"], 2, "a blank stands between two fields")):

@@ -101,7 +101,7 @@ class Explain(unittest.TestCase):
         done = call("explain", HELLO, "step", "--kill", "0@3")
         self.assertEqual((done.returncode, done.stdout), (2, ""))
         self.assertTrue(done.stderr.startswith("usage 2\nrx10: "), done.stderr)
-        self.assertIn("\n  rx10 step --kill 0@3\n                   ^^^\n  `rx10 step --help` tells the words", done.stderr)
+        self.assertIn("\n  rx10 step --kill 0@3 %s\n                   ^^^\n  `rx10 step --help` tells the words" % HELLO, done.stderr)
         pair = b"rx10 pair 8\nprint 7;" + b"rx10 trace 2\nplaces 0 heap 1\n"
         done = call("explain", self.file(pair, "pair"), "verify")
         self.assertEqual(done.returncode, 10)
@@ -114,11 +114,11 @@ class Explain(unittest.TestCase):
         os.chdir(self.room)
         self.assertEqual(call("explain", "stale").stdout, "stale: nothing is wrong; work 1\n")
         self.assertTrue(call("explain", "index").stdout.startswith("fault index: "))
-        for name, more in (("nonsense", "; it is no status, answer or fault either"), ("none.rx", ""), ("a/nonsense", "")):
+        for name, more in (("nonsense", "  `nonsense` is no status, answer or fault either\n"), ("none.rx", ""), ("a/nonsense", "")):
             done = call("explain", name)
-            self.assertEqual((done.returncode, done.stdout, done.stderr), (125, "", "rx10: can't read %s: No such file or directory%s\n" % (name, more)))
+            self.assertEqual((done.returncode, done.stdout, done.stderr), (2, "", "rx10: there is no file `%s` here\n%s" % (name, more)))
         done = call("explain", "nonsense", "step")
-        self.assertEqual(done.stderr, "rx10: can't read nonsense: No such file or directory\n")
+        self.assertEqual(done.stderr, "rx10: there is no file `nonsense` here\n")
 
     def test_what_the_launcher_asks(self):
         """Statuses with their input: nothing is said where nothing is known."""
@@ -272,14 +272,15 @@ class Laws(unittest.TestCase):
         self.assertEqual(self.told(changed)[1][3], "no: entry 14: it masks a fault, and names no lost place")
 
     def test_words_and_inputs(self):
-        for words in ([], ["a", "b"], ["--pairs"], ["--help", "a"]):
+        for words, said in (([], "a trace is missing"), (["a", "b"], "`laws` takes one file, and `b` is one more"), (["--pairs"], None)):
             done = call("laws", *words)
-            self.assertEqual((done.returncode, done.stdout, done.stderr), (2, "", "usage: rx10 laws TRACE\n"), words)
+            self.assertEqual((done.returncode, done.stdout), (2, ""), words)
+            self.assertEqual(done.stderr, "rx10: %s\n  `rx10 laws --help` tells the words\n" % said if said else done.stderr)
         for word in ("-h", "--help"):
             done = call("laws", word)
             self.assertEqual((done.returncode, done.stderr, done.stdout.split("\n")[0]), (0, "", "usage: rx10 laws TRACE"))
         done = call("laws", "/none")
-        self.assertEqual((done.returncode, done.stdout, done.stderr), (125, "", "rx10: can't read /none: No such file or directory\n"))
+        self.assertEqual((done.returncode, done.stdout, done.stderr), (2, "", "rx10: there is no file `/none` here\n"))
         self.assertEqual(self.asked("", TRACE).stdout, self.asked(TRACE.read_text()).stdout)
 
     def test_bad_lines(self):

@@ -79,7 +79,8 @@ def words() -> argparse.ArgumentParser:
     parser.add_argument("port", metavar="PORT", type=int)
     parser.add_argument("-v", "--verbose", action="store_true", help="say on standard error what this place does")
     parser.add_argument("--tls", metavar="FILE", help="encrypt, and trust only the certificates in this file (PEM)")
-    parser.add_argument("--wait", metavar="SECONDS", type=float, default=PATIENCE, help="how long the driver may take to answer; %(default)s if left out")
+    parser.add_argument("--wait", metavar="SECONDS", type=float, default=PATIENCE,
+                        help="how long the driver may take to answer; %(default)s if left out")
     return parser
 
 

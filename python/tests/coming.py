@@ -224,7 +224,7 @@ def a_local_place_hangs_while_it_joins():
             os.kill(begun[0], signal.SIGSTOP)
             return begun[0]
         rt._engine._start = start_and_stop
-        with raises(rx10.Misuse, text=f"no place came within 2 s; processes that said nothing: "):
+        with raises(rx10.Misuse, text="no place came within 2 s; processes that said nothing: "):
             rt.join(wait=2)
         wait_until(lambda: not is_alive(begun[0]))
         rt._engine._start = start

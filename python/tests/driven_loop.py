@@ -11,7 +11,6 @@ can be taken, nothing is unsent, nothing is unread. Where nothing can happen any
 import collections
 import random
 import selectors
-import socket
 import sys
 
 from driven import Failed, Newcomer, World

@@ -4,7 +4,6 @@ import os
 import secrets
 import shutil
 import socket
-import ssl
 import subprocess
 import sys
 import tempfile

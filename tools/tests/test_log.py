@@ -62,7 +62,7 @@ class Log(unittest.TestCase):
         done = tool("laws.py", LOG.replace("6 wait", "7 wait"))
         self.assertEqual((done.returncode, done.stderr.split("\n")[0]), (10, "bad line 7"))
         done = tool("draw.py", LOG.replace("6 wait", "7 wait"), "-o", "-")
-        self.assertEqual(done.returncode, 1)
+        self.assertEqual(done.returncode, 10)
         self.assertIn("from line 7 on", done.stderr)
 
     def test_a_picture(self):

@@ -94,7 +94,7 @@ class Laws(Room):
         done = launch("laws", "hello.rx", cwd=self.room)
         self.assertEqual((done.returncode, done.stdout, done.stderr.split("\n")[:2]),
                          (10, "", ["bad line 1", "hello.rx:1:1: line 1 of the trace can't stand here"]))
-        for words, status in (([], 2), (["a", "b"], 2), (["--all"], 2), (["none.trace"], 125), ([self.room], 125), (["--help"], 0)):
+        for words, status in (([], 2), (["a", "b"], 2), (["--all"], 2), (["none.trace"], 2), ([self.room], 2), (["--help"], 0)):
             self.assertEqual(launch("laws", *words, cwd=self.room).returncode, status, words)
         self.assertEqual(launch("laws", "-", input=b"\xff\n").returncode, 10)
 

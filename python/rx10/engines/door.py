@@ -17,7 +17,7 @@ import socket
 import ssl
 import threading
 import time
-from typing import Any, Callable, Counter, Deque, Dict, Generator, List, NamedTuple, Optional, Set, Tuple
+from typing import Any, Callable, Counter, Dict, Generator, List, NamedTuple, Optional, Tuple
 
 from .. import wire
 from .base import Engine, Job, Where

@@ -8,7 +8,7 @@ from __future__ import annotations
 import collections
 import itertools
 import os
-from typing import Any, Deque, Optional, Tuple
+from typing import Any, Deque, Optional
 
 from .base import Job, Where
 from .door import Door, Newcomer

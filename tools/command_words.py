@@ -25,9 +25,11 @@ OPTIONS = {
 }
 # What the launcher takes beside these.
 OWN_OPTIONS = {"step": ["--prints"], "live": ["--prints"], "gen": ["--script", "--trace"], "verify": ["--why"]}
+# These take no value.
+FLAGS = ("--prints", "--why")
 FILES = ("step", "live", "check", "verify", "span")
 PAIRS = ("verify", "span")
-OF_LAUNCHER = ("draw", "laws", "sweep", "explain", "help", "build", "test", "install", "package")
+OF_LAUNCHER = ("show", "draw", "laws", "sweep", "explain", "help", "build", "test", "coordinator", "install", "package")
 
 
 def value_rule(option):
@@ -118,13 +120,15 @@ def why_option(words, k):
         return "`%s` stands twice" % word
     if command in FILES and (is_file or word == "-"):
         return "`%s` takes one file" % command
-    if word.startswith("--") and "=" in word and word.split("=")[0] in options:
-        return "write `%s %s`: an option and its value are two words" % tuple(word.split("=", 1))
+    known, name = [*options, *OWN_OPTIONS.get(command, ())], word.split("=")[0]
+    if "=" in word and name in known:
+        return "`%s` takes no value" % name if name in FLAGS else "write `%s %s`: the program takes an option and its value as two words" % (
+            name, word.partition("=")[2])
     if command in FILES and not word.startswith("-"):
         return why_no_file(word)
-    if not options:
+    if not known:
         return "`%s` takes no options" % command
-    return "`%s` has no option `%s`%s" % (command, word, near(word, [*options, *OWN_OPTIONS.get(command, ())]) or "; it has %s" % ", ".join(options))
+    return "`%s` has no option `%s`%s" % (command, name, near(name, known) or "; it has %s" % ", ".join(known))
 
 
 def why(words, k):

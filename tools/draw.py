@@ -17,8 +17,8 @@ NAME.html in this folder for NAME.trace, standard output where the trace came fr
   --svg           the picture alone, as `-o NAME.svg` does
   --perfetto      the JSON, as `-o NAME.json` does
 
-Exit status: 0; 1 where TRACE is no trace, or SCRIPT or SPAN is of another one; 2 for bad words; 125 where a file can't be read or
-written. This tool is not proved: it shows what a trace says, and checks nothing.
+Exit status: 0; 1 where SCRIPT or SPAN is of another trace; 2 for bad words, or where there is no such file; 10 where TRACE is no trace;
+125 where a file can't be read or written. This tool is not proved: it shows what a trace says, and checks nothing.
 """
 
 import pathlib
@@ -191,13 +191,15 @@ def main(words):
     except trace_text.NoTrace as why:
         hint = "; a script is run by `rx10 step FILE`, which writes a trace" if why.number == 1 else ""
         print("rx10: %s is no trace, from line %d on: %s%s" % (name, why.number, str(why).split(": ", 1)[1], hint), file=sys.stderr)
-        return 1
+        return ends.BAD_TRACE
     except Wrong as why:
         print("rx10: %s" % why, file=sys.stderr)
         return 1
     except OSError as why:
         if now == "standard output":
             raise
+        if now == name:
+            return inputs.refused(why.filename or given.trace, why)
         print("rx10: %s: %s" % (why.filename or now, why.strerror), file=sys.stderr)
         return ends.FAILED
     return 0

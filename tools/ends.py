@@ -3,7 +3,7 @@
 import os
 import sys
 
-FAILED, STOPPED, CLOSED = 125, 130, 141
+USAGE, BAD_TRACE, FAILED, STOPPED, CLOSED = 2, 10, 125, 130, 141
 
 
 def guarded(main, words):

@@ -192,7 +192,7 @@ def explained(status, said, name, text, words, parted=False):
     numbers = [int(it) for it in re.findall("[0-9]+", said)]
     if status == 2 and len(numbers) == 1:
         return "rx10: %s\n  %s\n  `rx10 %s` tells the words" % (
-            command_words.why(words, numbers[0]), command_words.shown(words, numbers[0]).replace("\n", "\n  "),
+            command_words.why(words, numbers[0]), command_words.shown(whole(words, numbers[0], name), numbers[0]).replace("\n", "\n  "),
             "%s --help" % words[0] if words and words[0] in command_words.OPTIONS else "--help")
     if status == 5:
         return of_long(name, text, words)
@@ -213,6 +213,11 @@ def explained(status, said, name, text, words, parted=False):
     if status == 10 and len(numbers) == 1:
         return of_line(name, text, numbers[0])
     return None
+
+
+def whole(words, k, name):
+    """The words of a command with the file that stands for its standard input, where the bad word k is one of the words."""
+    return [*words, name] if name and name != "standard input" and k < len(words) else words
 
 
 def meaning(word):
@@ -264,10 +269,10 @@ def main(words):
     try:
         status, wrote, said = told(words[0], words[1:] or ["check"])
     except OSError as why:
-        no_name = len(words) == 1 and "/" not in words[0] and "." not in words[0] and not os.path.exists(words[0])
-        hint = "; it is no status, answer or fault either" if no_name else ""
-        print("rx10: can't read %s: %s%s" % (words[0], why.strerror, hint), file=sys.stderr)
-        return ends.FAILED
+        status = inputs.refused(words[0], why)
+        if len(words) == 1 and "/" not in words[0] and "." not in words[0] and not os.path.exists(words[0]):
+            print("  `%s` is no status, answer or fault either" % words[0], file=sys.stderr)
+        return status
     if said:
         print(said, file=sys.stderr)
     if wrote:

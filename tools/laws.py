@@ -8,7 +8,7 @@ joins that the trace was given, and one line for each law whether it holds. The 
 laws of the order of statements need the script, and `rx10 verify` tells of them. TRACE may be the log of a session of `rx10-coordinator`,
 too: then the deaths and joins stand where its entries tell them.
 
-Exit status: 0 all of it holds, 1 something does not; 2 the words, 10 the text is no trace, 125 it can't be read.
+Exit status: 0 all of it holds, 1 something does not; 2 the words, or there is no such file; 10 the text is no trace, 125 it can't be read.
 """
 
 import sys
@@ -17,6 +17,7 @@ import ends
 import explain
 import inputs
 import log_text
+import options
 import trace_text
 from model import Refused
 from model.laws import History
@@ -52,15 +53,14 @@ def main(words):
     if words in (["-h"], ["--help"]):
         print(__doc__.split("\n\n", 1)[1].strip())
         return 0
-    if len(words) != 1 or words[0].startswith("--"):
-        print("usage: rx10 laws TRACE", file=sys.stderr)
-        return 2
+    parser = options.Parser("laws")
+    parser.add_argument("trace", metavar="TRACE")
+    words = [parser.taken(words).trace]
     name = "standard input" if words[0] == "-" else words[0]
     try:
         text = inputs.read(words[0], "trace", "laws")
     except OSError as why:
-        print("rx10: can't read %s: %s" % (name, why.strerror), file=sys.stderr)
-        return ends.FAILED
+        return inputs.refused(words[0], why)
     whole, head = text.decode("latin-1"), 0
     if log_text.is_log(whole):
         whole, head = log_text.trace_of(whole), log_text.HEAD
@@ -68,7 +68,7 @@ def main(words):
     if bad:
         more = "%s:%d: this is no line of a log" % (name, bad - head) if head else explain.of_line(name, text, bad)
         print("bad line %d\n%s" % (bad - head, more), file=sys.stderr)
-        return 10
+        return ends.BAD_TRACE
     told = answers(trace_text.read_trace(whole))
     for question, answer in told:
         print("%-31s %s" % (question, "yes" if answer is None else "no: " + answer))

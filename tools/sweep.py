@@ -163,7 +163,7 @@ class Sweep:
 
 def arguments(words):
     """The words of the sweep, the text of --require read."""
-    parser = options.Parser("sweep")
+    parser = options.Parser("sweep", "--require", "--require 'status=0 prints=7,8'")
     parser.add_argument("file", metavar="FILE")
     for option in (*WORDS, "--expect", "--require"):
         parser.add_argument(option)
@@ -185,7 +185,7 @@ def arguments(words):
     try:
         given.require = None if given.require is None else sweep_table.Requirement(given.require, given.any_order)
     except ValueError as why:
-        parser.error("--require: %s" % why)
+        parser.error("--require: %s; it takes fields as in --require 'status=0 prints=7,8 lost=-'" % why)
     return given
 
 
@@ -267,8 +267,7 @@ def main(words):
             print("rx10: %s is no table that a sweep has written" % given.expect, file=sys.stderr)
             return ends.FAILED
     except OSError as why:
-        print("rx10: can't read %s: %s" % (why.filename or given.file, why.strerror), file=sys.stderr)
-        return ends.FAILED
+        return inputs.refused(why.filename or given.file, why)
     base = base_of(given)
     # (a copy, so that an edit meanwhile does not mix two scripts)
     with tempfile.TemporaryFile() as script:

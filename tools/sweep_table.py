@@ -62,7 +62,8 @@ class Requirement:
             if "=" in values:
                 raise ValueError("`%s`: a blank stands between two fields" % word)
             if field not in Outcome._fields or not equals:
-                raise ValueError("`%s` is no FIELD=VALUES; the fields are %s" % (word, ", ".join(Outcome._fields)))
+                commas = ", and values have commas between them" if self.wanted and re.fullmatch(r"-?\d+", word) else ""
+                raise ValueError("`%s` is no FIELD=VALUES%s; the fields are %s" % (word, commas, ", ".join(Outcome._fields)))
             if field in self.wanted:
                 raise ValueError("`%s` stands twice" % field)
             self.wanted[field] = values_of(field, values)

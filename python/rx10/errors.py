@@ -9,7 +9,7 @@ from types import TracebackType
 from typing import Any, Callable, Iterable, List, Optional, Sequence, Tuple, TypeVar, cast
 
 if sys.version_info >= (3, 11):
-    _Group = ExceptionGroup
+    _Group = ExceptionGroup[Exception]
 else:
     class _Group(Exception):
         """As much of ExceptionGroup as rx10 needs."""

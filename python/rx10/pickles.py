@@ -10,8 +10,7 @@ import os
 import pickle
 import sys
 import traceback
-from types import ModuleType
-from typing import Any, Callable, Optional
+from typing import Any, Callable, Dict, Optional, Protocol, Tuple, cast
 
 from .errors import RemoteError, RemoteTraceback, Unpicklable, without_ours
 from .wire import PROTOCOL
@@ -19,14 +18,21 @@ from .wire import PROTOCOL
 TRACE = 20_000                  # characters of a traceback that travel
 
 
+class Pickler(Protocol):
+    """As much of cloudpickle as is used here."""
+
+    def dumps(self, obj: Any, protocol: int) -> bytes:
+        """The pickle of a thing."""
+
+
 @functools.lru_cache(maxsize=None)
-def cloudpickle() -> Optional[ModuleType]:
+def cloudpickle() -> Optional[Pickler]:
     """The module, where it is installed. It is not imported before it is needed."""
     try:
         import cloudpickle as module
     except ImportError:
         return None
-    return module
+    return cast(Pickler, module)
 
 
 def main_has_file() -> bool:
@@ -52,7 +58,7 @@ def pack(thing: Any, by_value: bool = False) -> bytes:
     return module.dumps(thing, PROTOCOL)
 
 
-def pack_call(fn: Callable, args: tuple, kwargs: dict, by_value: bool) -> bytes:
+def pack_call(fn: Callable[..., Any], args: Tuple[Any, ...], kwargs: Dict[str, Any], by_value: bool) -> bytes:
     """The pickle of a call."""
     if getattr(fn, "__module__", None) == "__main__" and (by_value or not main_has_file()) and not cloudpickle():
         name = getattr(fn, "__qualname__", repr(fn))

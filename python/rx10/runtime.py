@@ -216,8 +216,7 @@ class Runtime(Calls):
         for joiner, (when, wait) in list(self._deadlines.items()):
             if when <= time.monotonic():
                 del self._deadlines[joiner]
-                self._engine.give_up(joiner)
-                self.no_place(joiner, f"no place came within {wait:g} s; {self._engine.describe()}")
+                self._engine.give_up(joiner, f"no place came within {wait:g} s; {self._engine.describe()}")
 
     def _on_start(self, joiner: Optional[int], wait: Optional[float]) -> None:
         self._started += 1
@@ -252,9 +251,15 @@ class Runtime(Calls):
         self._silent.discard(place)
         logging.getLogger("rx10").info("%s again", "the coordinator answers" if place is None else f"place {place} gives signs of life")
 
+    def _on_forged(self, place: Optional[int]) -> None:
+        import logging
+        logging.getLogger("rx10").warning("%s is ended: somebody changed what travels between it and the driver",
+                                          "a place that joins" if place is None else f"place {place}")
+
     _FROM_HUB: Dict[str, Callable[..., None]] = {
         "start": _on_start, "ended": lambda self, tag: self._engine.ended(tag),
-        "joined": _on_joined, "behind": _on_behind, "silent": _on_silent, "sign": _on_sign}
+        "joined": _on_joined, "behind": _on_behind, "silent": _on_silent, "sign": _on_sign,
+        "forged": _on_forged}
 
     def _tell_hub(self, *message: Any, files: Sequence[int] = ()) -> None:
         try:

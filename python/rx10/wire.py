@@ -13,7 +13,7 @@ import pickle
 import socket
 import struct
 import weakref
-from typing import Any, List
+from typing import Any, List, Optional
 
 HEAD = struct.Struct("!Q")
 PROTOCOL = 4                    # of pickle: read by every Python from 3.4 on
@@ -21,6 +21,8 @@ PROTOCOL = 4                    # of pickle: read by every Python from 3.4 on
 RECORD = struct.Struct("!I16s")                                 # of a sealed line: the bytes of its content, and the tag
 COUNTED = struct.Struct("!QI")                                  # what a tag covers before the content: the record's number, and its size
 MOST = 1 << 18                  # bytes of a record's content
+
+USER_TIMEOUT = 18               # TCP_USER_TIMEOUT of Linux
 
 _lines: weakref.WeakSet[Any] = weakref.WeakSet()
 
@@ -164,8 +166,8 @@ def is_silent(life: socket.socket) -> Optional[bool]:
 def give_up_soon(line: socket.socket) -> None:
     """The other end's process is gone. So what waits to be sent is not waited for: where the other machine is silent now, the line ends."""
     try:
-        line.setsockopt(socket.IPPROTO_TCP, socket.TCP_USER_TIMEOUT, 30_000)
-    except (OSError, AttributeError):
+        line.setsockopt(socket.IPPROTO_TCP, USER_TIMEOUT, 30_000)
+    except OSError:
         pass                                                    # it has ended already, or is carried by another process
 
 

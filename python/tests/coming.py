@@ -1,6 +1,7 @@
 """What a user sees where places do not come, or come otherwise than they should, each situation in a process of its own.   coming.py NAME"""
 
 import contextlib
+import logging
 import os
 import secrets
 import signal
@@ -380,6 +381,10 @@ CHANGES = {
 
 def between(change, down):
     """The driver names the place dead, the place says what happened, and nothing that was put in is unpickled."""
+    said = []
+    handler = logging.Handler()
+    handler.emit = lambda record: said.append(record.getMessage())
+    logging.getLogger("rx10").addHandler(handler)
     rt = rx10.launched(places=2)
     process = place(Between(rt.address, CHANGES[change], down).address, "-v")
     with rt:
@@ -391,6 +396,7 @@ def between(change, down):
     status, text = ended(process)
     assert not os.path.exists(os.path.join(os.environ["FOLDER"], "bang"))
     assert status == (10 if down else 9), (status, text)
+    assert said == ([] if down else ["place 1 is ended: somebody changed what travels between it and the driver"]), said
 
 
 for each in CHANGES:

@@ -6,6 +6,7 @@ import os
 import random
 import signal
 import socket
+import ssl
 import subprocess
 import sys
 import tempfile
@@ -13,7 +14,9 @@ import time
 
 import rx10
 from alone import LIMIT
+from rx10.engines.handshake import Kind, make_hello
 from situations import kill, nap, raises, same, touch, wait_for, wait_until
+from test_tls import certificate
 
 SITUATIONS = {}                                     # by name
 TTL = 10                                            # seconds without a heartbeat, after which the scheduler gives a worker up
@@ -33,21 +36,23 @@ def free_port():
 
 
 @contextlib.contextmanager
-def cluster(workers=2, ttl=None, nannies=False):
+def cluster(workers=2, ttl=None, nannies=False, tls=None):
     """A scheduler and workers as programs, as on a real cluster; a nanny brings its worker back at the same address. Yields the client and
-    the scheduler."""
-    from distributed import Client
+    the scheduler. `tls`: the paths of a certificate and its key, where the cluster uses TLS."""
+    from distributed import Client, Security
     env = {**os.environ, **({"DASK_DISTRIBUTED__SCHEDULER__WORKER_TTL": ttl} if ttl else {})}
-    address = f"tcp://127.0.0.1:{free_port()}"
+    address = f"{'tls' if tls else 'tcp'}://127.0.0.1:{free_port()}"
+    words = ["--tls-ca-file", tls[0], "--tls-cert", tls[0], "--tls-key", tls[1]] if tls else []
+    security = Security(tls_ca_file=tls[0], tls_client_cert=tls[0], tls_client_key=tls[1], require_encryption=True) if tls else None
 
     def start(*program):
-        return subprocess.Popen([sys.executable, "-m", *program], stdout=subprocess.DEVNULL, stderr=subprocess.DEVNULL, env=env)
+        return subprocess.Popen([sys.executable, "-m", *program, *words], stdout=subprocess.DEVNULL, stderr=subprocess.DEVNULL, env=env)
 
     def ports():
         return ["--worker-port", str(free_port()), "--nanny-port", str(free_port())] if nannies else ["--no-nanny"]
     scheduler = start("distributed.cli.dask_scheduler", "--host", "127.0.0.1", "--port", address.rsplit(":", 1)[1], "--no-dashboard")
     processes = [start("distributed.cli.dask_worker", address, "--nthreads", "1", "--no-dashboard", *ports()) for _ in range(workers)]
-    client = Client(address, timeout=LIMIT)
+    client = Client(address, timeout=LIMIT, security=security)
     try:
         client.wait_for_workers(workers, LIMIT)
         yield client, scheduler
@@ -110,6 +115,44 @@ def results_and_losses():
                     kill(worker)
             assert lost.lost and well.result() == 7
         wait_until(lambda: not tasks_of_dask(client) and not plugins(client))
+
+
+@situation
+def encrypted():
+    """The lines use the cluster's own certificates, and nobody else comes in."""
+    with tempfile.TemporaryDirectory() as folder:
+        own, other = certificate(folder, "own"), certificate(folder, "other")
+        with cluster(tls=own) as (client, _), rx10.dask(client) as rt:
+            assert rt.at(1, len, bytes(3_000_000)) == 3_000_000 and len(rt.at(2, bytes, 3_000_000)) == 3_000_000
+            context = ssl.create_default_context(cafile=own[0])
+            context.check_hostname = False
+            for name in (None, other):                          # no certificate, and one of somebody else
+                if name:
+                    context.load_cert_chain(*name)
+                with raises_any(OSError), socket.create_connection(rt.address) as sock, context.wrap_socket(sock) as encrypted:
+                    encrypted.sendall(make_hello(Kind.LINE, 1))
+                    if not encrypted.recv(1):
+                        raise ConnectionResetError
+            with socket.create_connection(rt.address) as sock:
+                sock.sendall(b"rx10-2\r\n")
+                sock.shutdown(socket.SHUT_WR)
+                assert sock.recv(1) == b""
+            with raises(rx10.DeadPlaces, 1):
+                with rt.finish() as f:
+                    f.spawn(1, nap, LIMIT)
+                    well = f.spawn(2, same, 7)
+                    kill(rt.where(1))
+            assert well.result() == 7
+
+
+@contextlib.contextmanager
+def raises_any(kind):
+    """The body must raise an error of this kind."""
+    try:
+        yield
+    except kind:
+        return
+    raise AssertionError(f"it raised no {kind.__name__}")
 
 
 @situation

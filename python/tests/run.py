@@ -1,10 +1,11 @@
 #!/usr/bin/env python3
-"""Tests of the Python package. Run it from anywhere: python3 python/tests/run.py [--first] [NAME ..]
+"""Tests of the Python package. Run it from anywhere: python3 python/tests/run.py [--first] [--coverage] [NAME ..]
 
 It takes the coordinator that the package finds (RX10_COORDINATOR names one). Where there is none the model of these tests stands in for it,
 and that is said. What is not on this machine is skipped by name; nothing is installed (`setup` does that). No terminal is needed, and the
 machine may be busy: what a test waits for ends the wait, and no test measures speed. A name is that of a test module, class or test, as
-`test_driven`. With `--first` the first test that fails is the last. The last line is `N passed, N failed, N skipped`.
+`test_driven`. With `--first` the first test that fails is the last, and with `--coverage` the lines of the package are listed that no process
+of the tests reached. The last line is `N passed, N failed, N skipped`; only the lists stand behind it.
 """
 
 import argparse
@@ -42,7 +43,12 @@ def main(words):
     parser = argparse.ArgumentParser(prog="python/tests/run.py", description=__doc__.split("\n", maxsplit=1)[0])
     parser.add_argument("names", nargs="*", metavar="NAME")
     parser.add_argument("--first", action="store_true", help="end with the first test that fails")
+    parser.add_argument("--coverage", action="store_true", help="list the lines of the package that no process of the tests reaches")
     given = parser.parse_args(words)
+    if given.coverage:
+        import reached
+        with tempfile.TemporaryDirectory(prefix="rx10-tests-") as folder:
+            return reached.run([*given.names, *["--first"] * given.first], folder)
     os.environ.pop("PYTHONDONTWRITEBYTECODE", None)             # some thousand processes would each compile the package anew
     # (where the tests run in the background, a Ctrl-C is ignored from the start, and so it would be in all that they start)
     signal.signal(signal.SIGINT, signal.default_int_handler)

@@ -7,6 +7,7 @@ import unittest
 import alone
 from dask_situations import SITUATIONS
 from rx10.engines.dask import Dask
+from rx10.engines.door import Refused
 
 AT_A_TIME = 3                   # most of their time they wait
 JOBS = os.environ.get("RX10_DASK_JOBS", "6")
@@ -43,6 +44,29 @@ class Keepers(unittest.TestCase):
         self.engine._keep(3, "tcp://c")
         self.assertEqual([it.is_cancelled for it in self.futures], [True, False, True])
         self.assertEqual(self.engine._take_keepers(), [])
+
+
+class Newcomers(unittest.TestCase):
+    """Who comes over the network is one that was asked to, and still wanted. No Dask is needed."""
+
+    def setUp(self):
+        self.engine = Dask(self, ["tcp://a"], [], None)
+        self.engine._unused.clear()
+        self.engine._expected.update({1: ("tcp://a", 7), 2: ("tcp://b", 8)})
+
+    def test_who_was_not_asked(self):
+        self.engine.check(1)
+        self.assertRaises(Refused, self.engine.check, 3)
+        self.assertIn("no place came from tcp://a, tcp://b", self.engine.describe())
+
+    def test_who_was_given_up(self):
+        self.engine.job, told = self, []
+        self.no_place = lambda *words: told.append(words)
+        self.engine.give_up(7, "it is late")
+        self.assertEqual(told, [(7, "it is late")])
+        self.assertRaises(Refused, self.engine.check, 1)
+        self.engine.check(2)
+        self.assertEqual(self.engine._unused, ["tcp://a"])
 
 
 @unittest.skipUnless(PYTHON, "no Python of this machine has Dask's distributed")

@@ -3,13 +3,9 @@
 import contextlib
 import logging
 import os
-import pathlib
 import pickle
 import secrets
-import select
-import signal
 import socket
-import subprocess
 import sys
 import tempfile
 import threading
@@ -40,7 +36,10 @@ class Job:
     """What the driver is for an engine."""
 
     def __init__(self):
-        self.came, self.changed = [], threading.Condition()
+        self.came, self.refused, self.changed = [], [], threading.Condition()
+
+    def no_place(self, joiner, why):
+        self.refused.append((joiner, why))
 
     def connected(self, sock, other, tag, joiner, key=None):
         with self.changed:
@@ -59,6 +58,15 @@ class Job:
         for sock, other, *_ in self.came:
             sock.close()
             other.close()
+
+
+def carry(source, sink):
+    """Carries bytes as they are."""
+    with contextlib.suppress(OSError), source, sink:
+        data = source.recv(1 << 16)
+        while data:
+            sink.sendall(data)
+            data = source.recv(1 << 16)
 
 
 def until(holds):
@@ -139,9 +147,11 @@ class Knocking(WithDoor):
     def test_one_that_was_given_up_is_not_wanted_later(self):
         self.engine.add(5)
         self.engine.add(6)
-        self.engine.give_up(5)
+        self.engine.give_up(5, "it is late")
+        self.engine.give_up(8, "it came before")                # nobody waits for this one any more
         line = door.knock(*self.address, TOKEN).line
         self.assertEqual(self.job.wait(1)[3], 6)
+        self.assertEqual(self.job.refused, [(5, "it is late")])
         line.close()
 
     def test_one_that_ends_while_it_waits_is_not_taken_in(self):
@@ -289,6 +299,22 @@ class Knocking(WithDoor):
         self.assertEqual(len(self.said), 1000)
         for sock in silent:
             sock.close()
+
+    def test_one_that_is_pushed_out_comes_again(self):
+        """The door hangs up on a place before it could prove anything."""
+        with socket.create_server(("127.0.0.1", 0)) as server:
+            came = []
+            thread = threading.Thread(target=lambda: came.append(door.knock(*server.getsockname(), TOKEN, wait=SOON)))
+            thread.start()
+            for _ in range(2):
+                server.accept()[0].close()
+            for _ in range(2):                                  # its line, and its life
+                near, far = server.accept()[0], socket.create_connection(self.address)
+                for source, sink in ((near, far), (far, near)):
+                    threading.Thread(target=carry, args=(source, sink), daemon=True).start()
+            thread.join()
+        came[0].line.close()
+        self.assertEqual(self.said, [])
 
     def test_the_crowd_at_its_limit(self):
         """64 may wait, and the 65th takes the place of the one who has waited longest."""

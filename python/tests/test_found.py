@@ -146,14 +146,21 @@ class Line(unittest.TestCase):
                              ({2: (4, 1, 1), 0: (1, 1, 0), 1: (9, 4, 2)}, "done 6, running 5, lost 3 (by place 0: 1/0/0, 1: 4/3/2, 2: 1/2/1)")):
             self.assertEqual(progress.text_of(counts), text)
 
+    def test_places_that_give_no_sign(self):
+        self.assertEqual(progress.text_of({1: (2, 1, 0)}, [3, 1]), "done 1, running 1, lost 0 (by place 1: 1/1/0), no sign of life from 3, 1")
+        written, line = io.StringIO(), progress.ProgressLine()
+        with contextlib.redirect_stderr(written):
+            line.show({1: (2, 1, 0)}, [1])
+        self.assertEqual(written.getvalue(), "\rdone 1, running 1, lost 0 (by place 1: 1/1/0), no sign of life from 1")
+
     def test_it_is_written_over(self):
         written, line = io.StringIO(), progress.ProgressLine()
         with contextlib.redirect_stderr(written):
             line.end()
             self.assertEqual(written.getvalue(), "")
-            line.show({1: (10, 10, 0)})
-            line.show({1: (9, 9, 0)})
-            line.show({1: (10, 9, 0)})
+            line.show({1: (10, 10, 0)}, [])
+            line.show({1: (9, 9, 0)}, ())
+            line.show({1: (10, 9, 0)}, ())
             line.end()
         self.assertEqual(written.getvalue(), "\rdone 10, running 0, lost 0 (by place 1: 10/0/0)\rdone 9, running 0, lost 0 (by place 1: 9/0/0)  "
                          "\rdone 9, running 1, lost 0 (by place 1: 9/1/0)\n")

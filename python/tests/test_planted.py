@@ -92,6 +92,7 @@ class Runner(unittest.TestCase):
         self.assertEqual(told.what, plant.SURVIVES, told.why)
 
     def test_one_under_which_a_test_hangs(self):
-        told = self.tell("file: python/rx10/wire.py\nold:                 break\nnew:                 continue\ntests: test_around.Texts", 5)
+        told = self.tell("file: python/rx10/wire.py\nold:             end = at + HEAD.size + size\n"
+                         "new:             end = at + HEAD.size + size; len(self._bytes) < end and any(iter(int, 1))\ntests: test_around.Texts", 5)
         self.assertEqual(told.what, plant.REFUSED, told.why)
         self.assertRegex(told.why, r"(?s)\Ahangs\n.*wire\.py\", line \d+ in feed")

@@ -13,7 +13,7 @@ import threading
 import unittest
 
 import alone
-from rx10.engines.tls import Carrier, driver_context, place_context
+from rx10.engines.tls import Carrier, Flow, driver_context, place_context
 
 SOON = 120                      # seconds in which what must come has come, however busy the machine is
 
@@ -36,6 +36,28 @@ class WithCertificates(unittest.TestCase):
     @classmethod
     def tearDownClass(cls):
         cls.folder.cleanup()
+
+
+class Little:
+    """A socket that has some bytes, and one that takes three at a time."""
+
+    def __init__(self, data):
+        self.data, self.taken = data, b""
+
+    def recv(self, size):
+        data, self.data = self.data[:size], self.data[size:]
+        return data
+
+    def send(self, data):
+        self.taken += data[:3]
+        return len(data[:3])
+
+
+class Flows(unittest.TestCase):
+    def test_a_sink_that_takes_little(self):
+        source, sink = Little(bytes(range(100))), Little(b"")
+        self.assertFalse(Flow(source, sink).move())
+        self.assertEqual(sink.taken, bytes(range(100)))
 
 
 class Carriers(WithCertificates):

@@ -4,13 +4,13 @@ _rx10() {
     local now=${COMP_WORDS[COMP_CWORD]} before=${COMP_WORDS[COMP_CWORD - 1]} command=${COMP_WORDS[1]} words=
     COMPREPLY=()
     if [ "$COMP_CWORD" -eq 1 ]; then
-        mapfile -t COMPREPLY < <(compgen -W 'step live check gen verify span draw laws sweep explain build test install package help --help --version' -- "$now")
+        mapfile -t COMPREPLY < <(compgen -W 'step live check gen verify span show draw laws sweep explain build test coordinator install package help --help --version' -- "$now")
         return
     fi
     case $before in
         --places) words='1 2 3 4 5 6 7 8 9 10 11 12 13 14 15 16' ;;
         --workers) words='1 2 3 4 5 6 7 8' ;;
-        --expect | --script | --trace | --span | -o)
+        --expect | --script | --trace | --span | --log | -o)
             compopt -o default
             return
             ;;
@@ -26,15 +26,17 @@ _rx10() {
         gen) words='--size --places --heap --kill --seed --script --trace --help' ;;
         verify) words='--why --help' ;;
         check | span | laws) words='--help' ;;
+        show) words='--places --heap --kill --join --pick --seed -o --no-open --help' ;;
         draw) words='-o --script --span --columns --width --title --svg --perfetto --help' ;;
         sweep) words='--places --heap --kill --join --pick --seed --pairs --seeds --no-deaths --any-order --require --max --jobs --expect --help' ;;
         explain | build | test) words='--help' ;;
+        coordinator) words='--places --log --help --version' ;;
         install | package)
             compopt -o filenames
             mapfile -t COMPREPLY < <(compgen -d -- "$now")
             return
             ;;
-        help) words='step live check gen verify span draw laws sweep explain build test install package' ;;
+        help) words='step live check gen verify span show draw laws sweep explain build test coordinator install package' ;;
         *) return ;;
     esac
     case $now in

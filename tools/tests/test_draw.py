@@ -408,7 +408,7 @@ class Pictures(unittest.TestCase):
             self.assertEqual([it.name for it in pathlib.Path(room).iterdir()], ["hello.html"])
         cut = (EXAMPLES / "hello.trace").read_bytes()[:200]
         earlier = JOINING.replace("trace 2", "trace 1").encode()
-        cases = [([], b"junk", 1), ([], earlier, 1), ([], cut, 1), ([EXAMPLES / "hello.rx"], b"", 1), (["none.trace"], b"", 125)]
+        cases = [([], b"junk", 10), ([], earlier, 10), ([], cut, 10), ([EXAMPLES / "hello.rx"], b"", 10), (["none.trace"], b"", 2)]
         cases.append((["--columns", "0"], b"", 2))
         for words, given, status in cases:
             done = launch("draw", *words, input=given)

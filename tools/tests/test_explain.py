@@ -58,7 +58,7 @@ WORDS = [
     ("live --workers 9", 2, "the number of workers, from 1 to 8"),
     ("live --watch 0", 2, "the number of snapshots, from 1 to 1000"),
     ("gen --places 3", 3, "`gen` needs `--size LINES`"),
-    ("verify --places 2", 1, "`verify` takes no options"),
+    ("verify --places 2", 1, "`verify` has no option `--places`; it has --why"),
     ("span none.rx none.trace", 1, "there is no file `none.rx` here"),
     ("step none.rx --places 3", 1, "there is no file `none.rx` here"),
     ("step /", 1, "`/` is a folder, and no file"),

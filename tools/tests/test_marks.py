@@ -7,6 +7,7 @@ import subprocess
 import unittest
 
 import activities
+import lanes
 import page
 import retold
 import trace_text
@@ -154,6 +155,25 @@ class Marks(unittest.TestCase):
 
     def test_a_place_that_joins(self):
         self.compare(JOINING)
+
+    def test_many_that_wait(self):
+        """Up to six idle activities of a place are drawn in full, up to twenty-four of more as thin bars, and of the others it is told who they are."""
+        for waiting in (6, 7, 24, 25, 40):
+            script = b"finish { repeat %d { at 1 async { at 2 { repeat 40 { print 1; } } } } repeat 80 { print 2; } }" % waiting
+            done = subprocess.run([PROGRAM, "step", "--places", "3"], input=script, capture_output=True, timeout=60, check=False)
+            text = done.stdout.decode()
+            told, story = retold.retold(text), activities.Story(trace_text.read_trace(text))
+            for strip in lanes.strips(story, 8):
+                idle = sorted((it.begin, int(it.name[1:])) for it in told.tasks.values() if it.place == 1 and it.begin < strip.begin and it.over >= strip.begin
+                              and not any(entry.task == it.name for entry in told.entries[strip.begin:strip.end])
+                              and not (it.struck is not None and strip.begin <= it.struck < strip.end))
+                lane = re.search(r'<rect class="lane p1".*?<rect class="lane p2"', strip.svg)[0]
+                hidden = re.search(r'<text class="idle"[^>]*>\+ (\d+) more<title>([^<]*)</title>', lane)
+                self.assertEqual(hidden[2].split() if hidden else [], ["t%d" % number for _, number in idle[24:]])
+                self.assertEqual(int(hidden[1]) if hidden else 0, len(idle[24:]))
+                drawn = re.findall(r'<rect class="bar p1"[^>]*height="(\d+)"', strip.svg)
+                self.assertEqual(drawn.count("4"), sum(told.tasks["t%d" % number].arrived is not None and told.tasks["t%d" % number].arrived <= strip.end
+                                                       for _, number in idle[:24]) if len(idle) > 6 else 0)
 
     def test_stores_that_refuse(self):
         script = b"new r = 2; put r[0] = 1; try { get x = r[2]; } catch { } try { new s = 300; } catch { } forget r; try { get x = r[0]; } catch { } print 1;"

@@ -131,6 +131,13 @@ class Sweeps(unittest.TestCase):
         done = launch("sweep", EXAMPLES / "caught.rx", "--require", "print=7")
         self.assertEqual(done.returncode, 2)
         self.assertIn("the fields are status, prints, thrown, lost, masked", done.stderr)
+        # a value that has lost its quotes, and one with a blank for a comma
+        done = launch("sweep", EXAMPLES / "caught.rx", "--require", "prints=7", "8")
+        self.assertEqual(done.returncode, 2)
+        self.assertIn("`8` is one more; the value of `--require` is one word, in quotes where it has blanks", done.stderr)
+        done = launch("sweep", EXAMPLES / "caught.rx", "--require=prints=7 8")
+        self.assertEqual(done.returncode, 2)
+        self.assertIn("values have commas between them", done.stderr)
 
     def test_max(self):
         done = launch("sweep", EXAMPLES / "hello.rx", "--places", "3", "--pairs", "--max", "40")
@@ -158,7 +165,7 @@ class Sweeps(unittest.TestCase):
         self.assertEqual(done.returncode, 2)
         self.assertIn("from 1 to 16", done.stderr)
         self.assertIn("rx10 sweep %s --places 17" % (EXAMPLES / "hello.rx"), done.stderr)
-        self.assertEqual(launch("sweep", "none.rx").returncode, 125)
+        self.assertEqual(launch("sweep", "none.rx").returncode, 2)
         self.assertEqual(launch("sweep").returncode, 2)
         done = launch("sweep", EXAMPLES / "hello.trace")
         self.assertEqual(done.returncode, 3)

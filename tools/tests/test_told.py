@@ -125,7 +125,7 @@ class Explain(unittest.TestCase):
         kept = self.file("print x;", "kept")
         for words, said in ((["--after", "4", "bad 1 0", kept, "mine.rx", "check"], "mine.rx:1:7: `x` is not known here"),
                             (["--after", "4", "bad 1 0", "/none", "mine.rx", "check"], ""), (["--after", "4", "bad 1 0", "", "mine.rx", "check"], ""),
-                            (["--after", "3", "syntax 99", kept, "mine.rx", "check"], ""), (["--after", "3", "syntax", kept, "mine.rx", "check"], ""),
+                            (["--after", "2", "usage", "", "mine.rx", "step"], ""), (["--after", "3", "syntax 99", kept, "mine.rx", "check"], ""), (["--after", "3", "syntax", kept, "mine.rx", "check"], ""),
                             (["--after", "4", "bad 1 9", kept, "mine.rx", "check"], ""), (["--after", "8", "no memory", kept, "mine.rx", "check"], ""),
                             (["--after", "2", "usage 1", "", "standard input", "step", "--plces"], "rx10: `step` has no option `--plces`; is `--places` meant?")):
             done = call("explain", *words)
@@ -202,6 +202,10 @@ class Explain(unittest.TestCase):
         for size, shown in ((40, "a" * 40), (41, "a" * 40 + "..")):
             text = b"print 1 " + b"a" * size
             self.assertIn(":1:9: `%s` can't stand here" % shown, explain.explained(3, "syntax 8", "x", text, ["check"]))
+
+    def test_a_word_of_the_language_where_a_name_must_come(self):
+        for text, at, is_told in ((b"set print = 1;", 4, True), (b"at 1 async async { }", 11, False), (b"print 1 print 2;", 8, False)):
+            self.assertEqual(" is a word of the language, and no name" in explain.explained(3, "syntax %d" % at, "x", text, ["check"]), is_told, text)
 
     def test_any_of(self):
         self.assertEqual([explain.any_of(it) for it in (["a"], ["a", "b"], ["a", "b", "c"])], ["a", "a or b", "a, b or c"])

@@ -45,7 +45,11 @@ class Engine(abc.ABC):
     """What starts and ends places. All calls but `stop` come from one thread of the driver, which lives as long as the job."""
 
     by_value = False            # whether functions of the main module go along with a call, as places have another main module
-    address: Optional[Tuple[str, int]] = None                   # where places come in, where they do so over a network
+
+    @property
+    def address(self) -> Optional[Tuple[str, int]]:
+        """Where places come in, where they do so over a network."""
+        return None
 
     @abc.abstractmethod
     def start(self, job: Job) -> None:
@@ -68,8 +72,8 @@ class Engine(abc.ABC):
         """What runs this place."""
 
     @abc.abstractmethod
-    def give_up(self, joiner: Optional[int]) -> None:
-        """The place that was wanted did not come in time. It is not wanted any more, and what was begun for it is undone."""
+    def give_up(self, joiner: Optional[int], why: str) -> None:
+        """The place that was wanted did not come in time. It is not wanted any more, what was begun for it is undone, and `no_place` tells why."""
 
     def describe(self) -> str:
         """What helps where places do not come."""

@@ -189,10 +189,11 @@ class Dask(Door):
         else:
             self.turn_out(newcomer)                             # it is late
 
-    def give_up(self, joiner: Optional[int]) -> None:
+    def give_up(self, joiner: Optional[int], why: str) -> None:
         with self._lock:
             for number in [number for number, wanted in self._expected.items() if wanted[1] == joiner]:
                 self._unused.append(self._expected.pop(number)[0])
+        self.job.no_place(joiner, why)
 
     def describe(self) -> str:
         with self._lock:
@@ -200,7 +201,8 @@ class Dask(Door):
         return f"no place came from {', '.join(missing) or 'nobody else'}; {super().describe()}"
 
     def where(self, tag: Any) -> Where:
-        return tag[2]._replace(worker=tag[1])
+        _, address, where = tag
+        return Where(where.host, where.process, address)
 
     def _on_event(self, event: Any) -> None:
         """The scheduler tells who comes and goes. The end of a line tells it sooner, where the machine still answers."""

@@ -107,11 +107,21 @@ def _encrypt(sock: socket.socket, tls: ssl.SSLContext, host: str) -> ssl.SSLSock
 
 
 def knock(host: str, port: int, token: bytes, number: int = 0, tls: Optional[ssl.SSLContext] = None, wait: float = 10) -> Knocked:
-    """A place's line to the hub, within this many seconds.
+    """A place's line to the hub, within this many seconds. It tries again where the driver hangs up, as one does that has too many newcomers.
 
     Raises NotLetIn and Impostor where trying again is of no use, ssl.SSLError where TLS is refused, and other OSErrors where no driver answers.
     """
     until = time.monotonic() + wait
+    while True:
+        try:
+            return _knock(host, port, token, number, tls, until)
+        except (ConnectionResetError, BrokenPipeError):
+            if time.monotonic() + RETRY > until:
+                raise
+            time.sleep(RETRY)
+
+
+def _knock(host: str, port: int, token: bytes, number: int, tls: Optional[ssl.SSLContext], until: float) -> Knocked:
     sock = _connect(host, port, until)
     try:
         sock.settimeout(max(0.1, until - time.monotonic()))
@@ -286,15 +296,17 @@ class Door(Engine):
 
     def _watch(self) -> None:
         while self._closing is None:
-            ends = [it.until for each in (self._strangers, self._lines) for it in each.values()]
+            ends = [*(it.until for it in self._strangers.values()), *(it.until for it in self._lines.values())]
             for key, _ in self._selector.select(max(0, min(ends) - time.monotonic()) if ends else None):
                 if self._closing is None:
                     key.data()
             self._end_the_late()
         for newcomer in self._idle.values():
             self._say_goodbye(newcomer)
-        for each in [*self._strangers.values(), *self._lines.values(), *self._idle.values()]:
-            each.close() if isinstance(each, Newcomer) else each.sock.close()
+        for stranger in self._strangers.values():
+            stranger.sock.close()
+        for newcomer in [*self._lines.values(), *self._idle.values()]:
+            newcomer.close()
         for sock in (self._listener, self._waker, self._woken):
             assert sock is not None
             sock.close()

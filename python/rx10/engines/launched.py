@@ -8,7 +8,6 @@ from __future__ import annotations
 import collections
 import itertools
 import os
-import threading
 from typing import Any, Deque, Optional, Tuple
 
 from .base import Job, Where
@@ -64,18 +63,17 @@ class Launched(Door):
     def left(self, newcomer: Newcomer) -> None:
         self._ready.remove(newcomer)
 
-    def give_up(self, joiner: Optional[int]) -> None:
-        done = threading.Event()
+    def give_up(self, joiner: Optional[int], why: str) -> None:
+        self.soon(lambda: self._forget(joiner, why))
 
-        def forget() -> None:
-            if joiner in self._wanted:
-                self._wanted.remove(joiner)
-            done.set()
-        self.soon(forget)
-        done.wait(1)
+    def _forget(self, joiner: Optional[int], why: str) -> None:
+        if joiner in self._wanted:
+            self._wanted.remove(joiner)
+            self.job.no_place(joiner, why)
 
     def where(self, tag: Any) -> Where:
-        return tag[1]
+        where: Where = tag[1]
+        return where
 
     def ended(self, tag: Any) -> None:
         pass

@@ -86,7 +86,8 @@ class Local(Engine):
         assert process.pid is not None
         return process.pid
 
-    def give_up(self, joiner: Optional[int]) -> None:
+    def give_up(self, joiner: Optional[int], why: str) -> None:
+        self._job.no_place(joiner, why)                         # before the hub sees that a process has ended
         with self._lock:
             came = self._job.tags()
             for pid, wanted_by in self._begun.items():

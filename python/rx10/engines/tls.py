@@ -56,7 +56,7 @@ def send(sock: socket.socket, data: bytes) -> int:
         raise Waits from None
 
 
-class _Flow:
+class Flow:
     """One direction: what was read and is not yet written."""
 
     def __init__(self, source: socket.socket, sink: socket.socket) -> None:
@@ -94,7 +94,7 @@ class Carrier:
         self.thread.start()
 
     def _carry(self) -> None:
-        out, back = _Flow(self._near, self._encrypted), _Flow(self._encrypted, self._near)
+        out, back = Flow(self._near, self._encrypted), Flow(self._encrypted, self._near)
         with selectors.DefaultSelector() as selector:
             selector.register(self._near, selectors.EVENT_READ)
             selector.register(self._encrypted, selectors.EVENT_READ)
@@ -114,7 +114,7 @@ class Carrier:
         for sock in (self._near, self._encrypted):
             sock.close()
 
-    def _last(self, out: _Flow) -> None:
+    def _last(self, out: Flow) -> None:
         """What was given to the line before its end still goes out, as far as the other end takes it at once."""
         try:
             self._encrypted.settimeout(2)

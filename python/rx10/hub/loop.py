@@ -318,6 +318,8 @@ class Hub:
             self.selector.unregister(peer.life)
         peer.hang_up()
         self.unsent.pop(peer, None)
+        if peer.forged:
+            self.to_driver("forged", peer.place)
         self.to_driver("ended", peer.tag)
         if peer.place is not None:
             self.core.ended(peer.place)

@@ -8,7 +8,7 @@ import signal
 import socket
 from typing import Any, Deque, List, Optional
 
-from ..wire import Frames, Seal, frame, give_up_soon
+from ..wire import Forged, Frames, Seal, frame, give_up_soon
 
 RECEIVE = 1 << 18               # bytes that are read at once
 GATHER = 1 << 16                # small messages are sent together up to this many bytes
@@ -54,6 +54,7 @@ class Peer:
         self.asked, self.heard = float("-inf"), float("-inf")   # when it was asked for a sign of life last, and gave one
         self.is_silent = False                                  # the driver was told so
         self.unsent = self.most_unsent = 0                      # bytes that wait to be sent, and the most that did since memory was given back
+        self.forged = False                                     # whether somebody changed what it sent
         self._frames = Frames()
         self._out: Deque[memoryview] = collections.deque()      # what waits, some of it gathered
         self._sizes: Deque[int] = collections.deque()           # by message how much of it waits
@@ -83,7 +84,10 @@ class Peer:
             content = data if self.seal is None else self.seal.open(data)
         except BlockingIOError:
             raise
-        except OSError:                                         # a forged record, too: nothing after it is believed
+        except Forged:
+            self.forged = True                                  # nothing after it is believed
+            return None
+        except OSError:
             return None
         return self._frames.feed(content) if data else None
 

@@ -136,7 +136,7 @@ class Workers:
 
     def __exit__(self, *_):
         for process in self.processes:
-            process.terminate()
+            process.kill()                                      # it has nothing to put away, and a handler of ours may be in force there
         for process in self.processes:
             process.join()
 

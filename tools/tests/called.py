@@ -4,6 +4,7 @@ import contextlib
 import importlib
 import io
 import os
+import signal
 import unittest.mock
 from types import SimpleNamespace
 
@@ -13,6 +14,7 @@ def call(tool, *words, input=b"", cwd=None):
     out, err = (io.TextIOWrapper(io.BytesIO(), "utf-8", write_through=True) for _ in range(2))
     given = io.TextIOWrapper(io.BytesIO(input), "utf-8")
     before = os.getcwd()
+    handlers = {it: signal.getsignal(it) for it in (signal.SIGINT, signal.SIGTERM, signal.SIGHUP)}
     try:
         os.chdir(cwd or before)
         with contextlib.redirect_stdout(out), contextlib.redirect_stderr(err), unittest.mock.patch("sys.stdin", given):
@@ -21,4 +23,6 @@ def call(tool, *words, input=b"", cwd=None):
         status = it.code
     finally:
         os.chdir(before)
+        for it, handler in handlers.items():
+            signal.signal(it, handler)
     return SimpleNamespace(returncode=status, stdout=out.buffer.getvalue().decode(), stderr=err.buffer.getvalue().decode())

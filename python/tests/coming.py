@@ -255,7 +255,7 @@ def addresses():
             rt.where(2)
     assert rt.address is None and ended(process)[0] == 9
     with rx10.local(places=2) as rt:
-        assert rt.address is None and rt.where(1) == (socket.gethostname(), rt.at(1, os.getpid), "")
+        assert rt.address is None and rt.where(1) == (socket.gethostname(), rt.at(1, os.getpid), "", False)
         assert rt.where(1).host == socket.gethostname() and rt.where(1).process == rt.at(1, os.getpid)
         os.kill(rt.where(1), 0)
 
